@@ -1,0 +1,3 @@
+pub mod Primes
+pub mod Roots
+pub mod Tables

@@ -1,0 +1,4 @@
+pub mod Variant
+pub mod Words
+pub mod Block
+pub mod Window

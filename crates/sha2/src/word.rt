@@ -1,0 +1,113 @@
+// What the block step asks of a word, and the two words that answer.
+ghost use Prim.Native.Nat.{ℕ, _*_, _/_, _-_, _^_, _<_};
+ghost use mathlib.Core.Path.{_≡_};
+ghost use Rattle.sha2.specs.Variant.{Variant, sha256, sha512};
+ghost use Rattle.sha2.specs.Words.{plus as sum, bigSigma0, bigSigma1, smallSigma0, smallSigma1, choice as chosen, majority as most};
+
+pub trait Word: Copy {
+    ghost value: { Self → ℕ };
+
+    ghost variant: { Variant };
+
+    fn plus(self, other: Self) -> Self
+        ensures { λ r. ⌜ value r ≡ sum variant (value self) (value other) ⌝ };
+
+    fn big_sigma0(self) -> Self
+        ensures { λ r. ⌜ value r ≡ bigSigma0 variant (value self) ⌝ };
+
+    fn big_sigma1(self) -> Self
+        ensures { λ r. ⌜ value r ≡ bigSigma1 variant (value self) ⌝ };
+
+    fn small_sigma0(self) -> Self
+        ensures { λ r. ⌜ value r ≡ smallSigma0 variant (value self) ⌝ };
+
+    fn small_sigma1(self) -> Self
+        ensures { λ r. ⌜ value r ≡ smallSigma1 variant (value self) ⌝ };
+
+    // The bits of `y` where this word has 1, else those of `z`.
+    fn choice(self, y: Self, z: Self) -> Self
+        ensures { λ r. ⌜ value r ≡ chosen variant (value self) (value y) (value z) ⌝ };
+
+    fn majority(self, y: Self, z: Self) -> Self
+        ensures { λ r. ⌜ value r ≡ most (value self) (value y) (value z) ⌝ };
+
+    // The upper bits of a constant of 64 bits.
+    fn upper(k: u64) -> Self
+        ensures { λ r. ⌜ value r ≡ k / 2 ^ (64 - variant .bits) ⌝ };
+}
+
+pub impl Word for u32 as U32Word {
+    ghost value = { λ x. x };
+
+    ghost variant = { sha256 };
+
+    fn plus(self, other: u32) -> u32 {
+        self.wrapping_add(other)
+    }
+
+    fn big_sigma0(self) -> u32 {
+        self.rotate_right(2) ^ self.rotate_right(13) ^ self.rotate_right(22)
+    }
+
+    fn big_sigma1(self) -> u32 {
+        self.rotate_right(6) ^ self.rotate_right(11) ^ self.rotate_right(25)
+    }
+
+    fn small_sigma0(self) -> u32 {
+        self.rotate_right(7) ^ self.rotate_right(18) ^ (self >> 3)
+    }
+
+    fn small_sigma1(self) -> u32 {
+        self.rotate_right(17) ^ self.rotate_right(19) ^ (self >> 10)
+    }
+
+    fn choice(self, y: u32, z: u32) -> u32 {
+        (self & y) ^ (!self & z)
+    }
+
+    fn majority(self, y: u32, z: u32) -> u32 {
+        (self & y) ^ (self & z) ^ (y & z)
+    }
+
+    fn upper(k: u64) -> u32 {
+        (k >> 32) as u32
+    }
+}
+
+pub impl Word for u64 as U64Word {
+    ghost value = { λ x. x };
+
+    ghost variant = { sha512 };
+
+    fn plus(self, other: u64) -> u64 {
+        self.wrapping_add(other)
+    }
+
+    fn big_sigma0(self) -> u64 {
+        self.rotate_right(28) ^ self.rotate_right(34) ^ self.rotate_right(39)
+    }
+
+    fn big_sigma1(self) -> u64 {
+        self.rotate_right(14) ^ self.rotate_right(18) ^ self.rotate_right(41)
+    }
+
+    fn small_sigma0(self) -> u64 {
+        self.rotate_right(1) ^ self.rotate_right(8) ^ (self >> 7)
+    }
+
+    fn small_sigma1(self) -> u64 {
+        self.rotate_right(19) ^ self.rotate_right(61) ^ (self >> 6)
+    }
+
+    fn choice(self, y: u64, z: u64) -> u64 {
+        (self & y) ^ (!self & z)
+    }
+
+    fn majority(self, y: u64, z: u64) -> u64 {
+        (self & y) ^ (self & z) ^ (y & z)
+    }
+
+    fn upper(k: u64) -> u64 {
+        k
+    }
+}
