@@ -21,11 +21,14 @@ pub record Eight : Type 0 where
 unfoldable pub scheduled : Variant → ℕ → ℕ → ℕ → ℕ → ℕ
 scheduled v w2 w7 w15 w16 = plus v (plus v (plus v (smallSigma1 v w2) w7) (smallSigma0 v w15)) w16
 
--- the words so far, and the next one behind them
-unfoldable pub oneMore : Variant → List ℕ → List ℕ
-oneMore v ws =
+-- the word that comes behind the words ws, at place t, their number
+unfoldable pub nextWord : Variant → List ℕ → ℕ
+nextWord v ws =
     let t = length ws in
-    ws ++ scheduled v (getD ws (t - 2) 0) (getD ws (t - 7) 0) (getD ws (t - 15) 0) (getD ws (t - 16) 0) ∷ []
+    scheduled v (getD ws (t - 2) 0) (getD ws (t - 7) 0) (getD ws (t - 15) 0) (getD ws (t - 16) 0)
+
+unfoldable pub oneMore : Variant → List ℕ → List ℕ
+oneMore v ws = ws ++ nextWord v ws ∷ []
 
 unfoldable pub extended : Variant → ℕ → List ℕ → List ℕ
 extended v zero ws = ws

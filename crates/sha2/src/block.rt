@@ -1,10 +1,8 @@
 // The block step: the rounds over a rolling window of sixteen schedule words.
-ghost use Prim.Native.Nat.{ℕ, _+_, _<_, _≤_};
-ghost use lib.ListN.{getD};
-ghost use mathlib.Core.List.{map};
+ghost use Prim.Native.Nat.{_+_, _<_, _≤_};
 ghost use mathlib.Core.Path.{_≡_};
-ghost use Rattle.sha2.specs.Block.{blockStep, round as oneRound, roundConstant, roundsFrom};
-ghost use Rattle.sha2.specs.Window.{eight, roundsLeft, shifted};
+ghost use Rattle.sha2.specs.Block.{added, blockStep, round as oneRound, roundConstant};
+ghost use Rattle.sha2.specs.Window.{LeadsTo, eight, shifted, sixteen};
 use crate::word::Word;
 use constants::round_constants;
 
@@ -21,11 +19,32 @@ pub struct State<W> {
     pub h: W,
 }
 
-// The working words, and the sixteen schedule words that are kept.
+// Sixteen words: a block's, or those of the schedule that are kept.
+#[derive(Clone, Copy)]
+pub struct Words<W> {
+    pub w0: W,
+    pub w1: W,
+    pub w2: W,
+    pub w3: W,
+    pub w4: W,
+    pub w5: W,
+    pub w6: W,
+    pub w7: W,
+    pub w8: W,
+    pub w9: W,
+    pub w10: W,
+    pub w11: W,
+    pub w12: W,
+    pub w13: W,
+    pub w14: W,
+    pub w15: W,
+}
+
+// The working words, and the schedule words from the next round's on.
 #[derive(Clone, Copy)]
 struct Work<W> {
     state: State<W>,
-    window: [W; 16],
+    window: Words<W>,
 }
 
 fn constant<W: Word>(t: usize) -> W
@@ -53,46 +72,90 @@ fn round<W: Word>(s: State<W>, k: W, w: W) -> State<W>
 }
 
 // The window one word on.
-fn shift<W: Word>(window: [W; 16]) -> [W; 16]
-    ensures { λ r. ⌜ map value r ≡ shifted variant (map value window) ⌝ }
+fn shift<W: Word>(w: Words<W>) -> Words<W>
+    ensures { λ r. ⌜ sixteen value r ≡ shifted variant (sixteen value w) ⌝ }
 {
-    let [w0, w1, w2, w3, w4, w5, w6, w7, w8, w9, w10, w11, w12, w13, w14, w15] = window;
-    let w16 = w14.small_sigma1().plus(w9).plus(w1.small_sigma0()).plus(w0);
-    [w1, w2, w3, w4, w5, w6, w7, w8, w9, w10, w11, w12, w13, w14, w15, w16]
-}
-
-// Round `t` + `I`. A const parameter makes each of the sixteen steps of a turn a function of its own, which is then inlined.
-fn step<W: Word, const I: usize>(work: Work<W>, t: usize) -> Work<W>
-    requires { ⌜ t + I < 80 ⌝ }
-    ensures state { λ r. ⌜ eight value (r .state) ≡ oneRound variant (roundConstant variant (t + I)) (getD (map value (work .window)) 0 0) (eight value (work .state)) ⌝ }
-    ensures window { λ r. ⌜ map value (r .window) ≡ shifted variant (map value (work .window)) ⌝ }
-{
-    Work {
-        state: round(work.state, constant(t + I), work.window[0]),
-        window: shift(work.window),
+    Words {
+        w0: w.w1,
+        w1: w.w2,
+        w2: w.w3,
+        w3: w.w4,
+        w4: w.w5,
+        w5: w.w6,
+        w6: w.w7,
+        w7: w.w8,
+        w8: w.w9,
+        w9: w.w10,
+        w10: w.w11,
+        w11: w.w12,
+        w12: w.w13,
+        w13: w.w14,
+        w14: w.w15,
+        w15: w.w14.small_sigma1().plus(w.w9).plus(w.w1.small_sigma0()).plus(w.w0),
     }
 }
 
-// Sixteen rounds from round `t` on.
-fn turn<W: Word>(work: Work<W>, t: usize) -> Work<W>
-    requires { ⌜ t + 16 ≤ 80 ⌝ }
-    ensures { λ r. ⌜ ((n : ℕ) → roundsLeft variant t (map value (work .window)) (16 + n) (eight value (work .state)) ≡ roundsLeft variant (t + 16) (map value (r .window)) n (eight value (r .state))) ⌝ }
+// Round `t` + `I`. The const parameters make each of a turn's steps a function of its own, so that each is inlined.
+fn step<W: Word, const I: usize, const LAST: bool>(work: Work<W>, t: usize) -> Work<W>
+    requires { ⌜ t + I < 80 ⌝ }
+    ensures { λ r. ⌜ LeadsTo variant (t + I) 1 (sixteen value (work .window)) (eight value (work .state)) (sixteen value (r .window)) (eight value (r .state)) ⌝ }
 {
-    let work = step::<W, 0>(work, t);
-    let work = step::<W, 1>(work, t);
-    let work = step::<W, 2>(work, t);
-    let work = step::<W, 3>(work, t);
-    let work = step::<W, 4>(work, t);
-    let work = step::<W, 5>(work, t);
-    let work = step::<W, 6>(work, t);
-    let work = step::<W, 7>(work, t);
-    let work = step::<W, 8>(work, t);
-    let work = step::<W, 9>(work, t);
-    let work = step::<W, 10>(work, t);
-    let work = step::<W, 11>(work, t);
-    let work = step::<W, 12>(work, t);
-    let work = step::<W, 13>(work, t);
-    let work = step::<W, 14>(work, t);
-    let work = step::<W, 15>(work, t);
+    let Work { state, window } = work;
+    Work {
+        state: round(state, constant(t + I), window.w0),
+        window: shift(window),
+    }
+}
+
+// Sixteen rounds from round `t` on. Of the last turn no window is used, and the compiler leaves it out.
+fn turn<W: Word, const LAST: bool>(work: Work<W>, t: usize) -> Work<W>
+    requires { ⌜ t + 16 ≤ 80 ⌝ }
+    ensures { λ r. ⌜ LeadsTo variant t 16 (sixteen value (work .window)) (eight value (work .state)) (sixteen value (r .window)) (eight value (r .state)) ⌝ }
+{
+    let work = step::<W, 0, LAST>(work, t);
+    let work = step::<W, 1, LAST>(work, t);
+    let work = step::<W, 2, LAST>(work, t);
+    let work = step::<W, 3, LAST>(work, t);
+    let work = step::<W, 4, LAST>(work, t);
+    let work = step::<W, 5, LAST>(work, t);
+    let work = step::<W, 6, LAST>(work, t);
+    let work = step::<W, 7, LAST>(work, t);
+    let work = step::<W, 8, LAST>(work, t);
+    let work = step::<W, 9, LAST>(work, t);
+    let work = step::<W, 10, LAST>(work, t);
+    let work = step::<W, 11, LAST>(work, t);
+    let work = step::<W, 12, LAST>(work, t);
+    let work = step::<W, 13, LAST>(work, t);
+    let work = step::<W, 14, LAST>(work, t);
+    let work = step::<W, 15, LAST>(work, t);
     work
+}
+
+// Two states, added word by word.
+fn sum<W: Word>(s: State<W>, t: State<W>) -> State<W>
+    ensures { λ r. ⌜ eight value r ≡ added variant (eight value s) (eight value t) ⌝ }
+{
+    State {
+        a: s.a.plus(t.a),
+        b: s.b.plus(t.b),
+        c: s.c.plus(t.c),
+        d: s.d.plus(t.d),
+        e: s.e.plus(t.e),
+        f: s.f.plus(t.f),
+        g: s.g.plus(t.g),
+        h: s.h.plus(t.h),
+    }
+}
+
+// The state after a block of sixteen words.
+pub fn compress<W: Word>(state: State<W>, block: Words<W>) -> State<W>
+    ensures { λ r. ⌜ eight value r ≡ blockStep variant (eight value state) (sixteen value block) ⌝ }
+{
+    let turns = W::rounds() / 16 - 1;
+    let mut work = Work { state, window: block };
+    for i in 0..turns {
+        work = turn::<W, false>(work, 16 * i);
+    }
+    let last = turn::<W, true>(work, 16 * turns);
+    sum(state, last.state)
 }

@@ -1,5 +1,5 @@
 // What the block step asks of a word, and the two words that answer.
-ghost use Prim.Native.Nat.{ℕ, _*_, _/_, _-_, _^_, _<_};
+ghost use Prim.Native.Nat.{ℕ, _-_, _/_, _%_, _^_, _≤_};
 ghost use mathlib.Core.Path.{_≡_};
 ghost use Rattle.sha2.specs.Variant.{Variant, sha256, sha512};
 ghost use Rattle.sha2.specs.Words.{plus as sum, bigSigma0, bigSigma1, smallSigma0, smallSigma1, choice as chosen, majority as most};
@@ -8,6 +8,12 @@ pub trait Word: Copy {
     ghost value: { Self → ℕ };
 
     ghost variant: { Variant };
+
+    law turns: { (16 ≤ variant .rounds) × (variant .rounds ≤ 80) × (variant .rounds % 16 ≡ 0) };
+
+    // How many rounds a block step has.
+    fn rounds() -> usize
+        ensures { λ r. ⌜ r ≡ variant .rounds ⌝ };
 
     fn plus(self, other: Self) -> Self
         ensures { λ r. ⌜ value r ≡ sum variant (value self) (value other) ⌝ };
@@ -40,6 +46,10 @@ pub impl Word for u32 as U32Word {
     ghost value = { λ x. x };
 
     ghost variant = { sha256 };
+
+    fn rounds() -> usize {
+        64
+    }
 
     fn plus(self, other: u32) -> u32 {
         self.wrapping_add(other)
@@ -78,6 +88,10 @@ pub impl Word for u64 as U64Word {
     ghost value = { λ x. x };
 
     ghost variant = { sha512 };
+
+    fn rounds() -> usize {
+        80
+    }
 
     fn plus(self, other: u64) -> u64 {
         self.wrapping_add(other)
