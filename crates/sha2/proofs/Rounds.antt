@@ -8,16 +8,16 @@ use native.Mathlib.Omega.{arith}
 use lib.ListN.{length, getD, drop}
 use Rattle.std.proofs.shelf.Lists.{getD-append-left, getD-drop}
 use Rattle.sha2.specs.Variant.{Variant}
-use Rattle.sha2.specs.Block.{Eight, round, roundConstant, roundsFrom, oneMore, extended, schedule}
+use Rattle.sha2.specs.Block.{Eight, round, roundsFrom, oneMore, extended, schedule}
 use Rattle.sha2.specs.Window.{shifted, roundsLeft, LeadsTo}
 use Rattle.sha2.proofs.Schedule.{length-extended, grown, extended-plus, extended-shifted}
 
 module _ (v : Variant) where
   -- the first of several rounds may as well come by itself
   first-round : (t n : ℕ) (ws : List ℕ) (s : Eight)
-      → roundsFrom v t ws (suc n) s ≡ roundsFrom v (t + 1) (drop 1 ws) n (round v (roundConstant v t) (getD ws 0 0) s)
+      → roundsFrom v t ws (suc n) s ≡ roundsFrom v (t + 1) (drop 1 ws) n (round v (getD (v .constants) t 0) (getD ws 0 0) s)
   unfolding roundsFrom
-  first-round t zero ws s = ap (λ k. round v (roundConstant v k) (getD ws 0 0) s) (add-zero t)
+  first-round t zero ws s = ap (λ k. round v (getD (v .constants) k 0) (getD ws 0 0) s) (add-zero t)
   first-round t (suc n) ws s =
       let e : t + suc n ≡ t + 1 + n = omega arith in
       let word : getD ws (suc n) 0 ≡ getD (drop 1 ws) n 0 = sym (getD-drop 1 ws n 0 ∙ ap (λ k. getD ws k 0) (omega arith)) in
@@ -34,18 +34,18 @@ module _ (v : Variant) where
       cc
 
   pub one-round : (t : ℕ) (ws : List ℕ) (s : Eight) → length ws ≡ 16
-      → LeadsTo v t 1 ws s (shifted v ws) (round v (roundConstant v t) (getD ws 0 0) s)
+      → LeadsTo v t 1 ws s (shifted v ws) (round v (getD (v .constants) t 0) (getD ws 0 0) s)
   unfolding roundsLeft
   one-round t ws s long m =
       let word : getD (extended v (suc m) ws) 0 0 ≡ getD ws 0 0 =
         let g = grown v (suc m) ws in ap (λ xs. getD xs 0 0) (g .1) ∙ getD-append-left ws (g .0) 0 0 (omega arith) in
       ap (λ n. roundsFrom v t (extended v n ws) n s) (one-add m)
       ∙ first-round t m (extended v (suc m) ws) s
-      ∙ ap (λ xs. roundsFrom v (t + 1) xs m (round v (roundConstant v t) (getD (extended v (suc m) ws) 0 0) s)) (extended-shifted v m ws long)
-      ∙ ap (λ w. roundsFrom v (t + 1) (extended v m (shifted v ws)) m (round v (roundConstant v t) w s)) word
+      ∙ ap (λ xs. roundsFrom v (t + 1) xs m (round v (getD (v .constants) t 0) (getD (extended v (suc m) ws) 0 0) s)) (extended-shifted v m ws long)
+      ∙ ap (λ w. roundsFrom v (t + 1) (extended v m (shifted v ws)) m (round v (getD (v .constants) t 0) w s)) word
 
   -- the same, part by part
-  pub one-step : (t k : ℕ) (ws ws′ : List ℕ) (s s′ : Eight) → length ws ≡ 16 → k ≡ roundConstant v t → s′ ≡ round v k (getD ws 0 0) s → ws′ ≡ shifted v ws
+  pub one-step : (t k : ℕ) (ws ws′ : List ℕ) (s s′ : Eight) → length ws ≡ 16 → k ≡ getD (v .constants) t 0 → s′ ≡ round v k (getD ws 0 0) s → ws′ ≡ shifted v ws
       → LeadsTo v t 1 ws s ws′ s′
   one-step t k ws ws′ s s′ long constant made moved m =
       one-round t ws s long m

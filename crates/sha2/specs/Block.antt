@@ -1,8 +1,7 @@
 -- The block step: the schedule of a block's sixteen words, the rounds, and their result added to the state.
 use mathlib.Core.List.{List, [], _∷_, _++_}
-use Prim.Native.Nat.{ℕ, zero, suc, _+_, _-_, _/_, _^_}
+use Prim.Native.Nat.{ℕ, zero, suc, _+_, _-_}
 use lib.ListN.{length, getD}
-use Rattle.constants.specs.Rule.{roundConstants}
 use Rattle.sha2.specs.Variant.{Variant}
 use Rattle.sha2.specs.Words.{plus, bigSigma0, bigSigma1, smallSigma0, smallSigma1, choice, majority}
 
@@ -38,10 +37,6 @@ extended v (suc n) ws = oneMore v (extended v n ws)
 unfoldable pub schedule : Variant → List ℕ → List ℕ
 schedule v block = extended v (v .rounds - 16) block
 
--- K_t: SHA-512's, or its upper bits where words are shorter
-unfoldable pub roundConstant : Variant → ℕ → ℕ
-roundConstant v t = getD roundConstants t 0 / 2 ^ (64 - v .bits)
-
 -- one round, with K_t and W_t
 unfoldable pub round : Variant → ℕ → ℕ → Eight → Eight
 round v k w s =
@@ -61,7 +56,7 @@ round v k w s =
 -- the working words after n rounds from round t on, with the words ws, the first of them W_t
 unfoldable pub roundsFrom : Variant → ℕ → List ℕ → ℕ → Eight → Eight
 roundsFrom v t ws zero s = s
-roundsFrom v t ws (suc n) s = round v (roundConstant v (t + n)) (getD ws n 0) (roundsFrom v t ws n s)
+roundsFrom v t ws (suc n) s = round v (getD (v .constants) (t + n) 0) (getD ws n 0) (roundsFrom v t ws n s)
 
 -- two states, added word by word
 unfoldable pub added : Variant → Eight → Eight → Eight

@@ -1,4 +1,5 @@
 pub mod Variant
+pub mod Bytes
 pub mod Words
 pub mod Block
 pub mod Window

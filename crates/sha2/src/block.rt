@@ -1,7 +1,8 @@
 // The block step: the rounds over a rolling window of sixteen schedule words.
 ghost use Prim.Native.Nat.{_+_, _<_, _≤_};
+ghost use lib.ListN.{getD};
 ghost use mathlib.Core.Path.{_≡_};
-ghost use Rattle.sha2.specs.Block.{added, blockStep, round as oneRound, roundConstant};
+ghost use Rattle.sha2.specs.Block.{added, blockStep, round as oneRound};
 ghost use Rattle.sha2.specs.Window.{LeadsTo, eight, shifted, sixteen};
 use crate::word::Word;
 use constants::round_constants;
@@ -49,7 +50,7 @@ struct Work<W> {
 
 fn constant<W: Word>(t: usize) -> W
     requires { ⌜ t < 80 ⌝ }
-    ensures { λ r. ⌜ value r ≡ roundConstant variant t ⌝ }
+    ensures { λ r. ⌜ value r ≡ getD (variant .constants) t 0 ⌝ }
 {
     W::upper(round_constants()[t])
 }

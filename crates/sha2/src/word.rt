@@ -1,7 +1,14 @@
 // What the block step asks of a word, and the two words that answer.
-ghost use Prim.Native.Nat.{ℕ, _-_, _/_, _%_, _^_, _≤_};
+ghost use Prim.Native.Nat.{ℕ, _/_, _%_, _≤_};
+ghost use lib.Dec.{leb};
+ghost use lib.ListN.{drop, length, take};
+ghost use mathlib.Core.Bool.{cond};
+ghost use mathlib.Core.List.{_++_, map};
+ghost use mathlib.Core.Logic.{_⊎_};
 ghost use mathlib.Core.Path.{_≡_};
-ghost use Rattle.sha2.specs.Variant.{Variant, sha256, sha512};
+ghost use Rattle.constants.specs.Rule.{roundConstants};
+ghost use Rattle.sha2.specs.Bytes.{bigEndian, number};
+ghost use Rattle.sha2.specs.Variant.{Variant, upper as upperBits, words32, words64};
 ghost use Rattle.sha2.specs.Words.{plus as sum, bigSigma0, bigSigma1, smallSigma0, smallSigma1, choice as chosen, majority as most};
 
 pub trait Word: Copy {
@@ -9,7 +16,15 @@ pub trait Word: Copy {
 
     ghost variant: { Variant };
 
+    law bits: { (variant .bits ≡ 32) ⊎ (variant .bits ≡ 64) };
+
     law turns: { (16 ≤ variant .rounds) × (variant .rounds ≤ 80) × (variant .rounds % 16 ≡ 0) };
+
+    law constants: { variant .constants ≡ map (upperBits (variant .bits)) roundConstants };
+
+    // How many bytes a word has.
+    fn size() -> usize
+        ensures { λ r. ⌜ r ≡ variant .bits / 8 ⌝ };
 
     // How many rounds a block step has.
     fn rounds() -> usize
@@ -39,13 +54,25 @@ pub trait Word: Copy {
 
     // The upper bits of a constant of 64 bits.
     fn upper(k: u64) -> Self
-        ensures { λ r. ⌜ value r ≡ k / 2 ^ (64 - variant .bits) ⌝ };
+        ensures { λ r. ⌜ value r ≡ upperBits (variant .bits) k ⌝ };
+
+    // The word that the first bytes spell, or 0 where they are too few.
+    fn read(bytes: &[u8]) -> Self
+        ensures { λ r. ⌜ value r ≡ cond (leb (variant .bits / 8) (length (now (bytes .entry)))) (number (take (variant .bits / 8) (now (bytes .entry)))) 0 ⌝ };
+
+    // Writes the word's bytes over the first ones of `out`, unless they are too few.
+    fn write(self, out: &mut [u8])
+        ensures { λ _. ⌜ now (out .exit) ≡ cond (leb (variant .bits / 8) (length (now (out .entry)))) (bigEndian (variant .bits / 8) (value self) ++ drop (variant .bits / 8) (now (out .entry))) (now (out .entry)) ⌝ };
 }
 
 pub impl Word for u32 as U32Word {
     ghost value = { λ x. x };
 
-    ghost variant = { sha256 };
+    ghost variant = { words32 };
+
+    fn size() -> usize {
+        4
+    }
 
     fn rounds() -> usize {
         64
@@ -82,12 +109,29 @@ pub impl Word for u32 as U32Word {
     fn upper(k: u64) -> u32 {
         (k >> 32) as u32
     }
+
+    fn read(bytes: &[u8]) -> u32 {
+        match bytes {
+            [a, b, c, d, ..] => u32::from_be_bytes([*a, *b, *c, *d]),
+            _ => 0,
+        }
+    }
+
+    fn write(self, out: &mut [u8]) {
+        if out.len() >= 4 {
+            out[0..4].copy_from_slice(&self.to_be_bytes());
+        }
+    }
 }
 
 pub impl Word for u64 as U64Word {
     ghost value = { λ x. x };
 
-    ghost variant = { sha512 };
+    ghost variant = { words64 };
+
+    fn size() -> usize {
+        8
+    }
 
     fn rounds() -> usize {
         80
@@ -123,5 +167,18 @@ pub impl Word for u64 as U64Word {
 
     fn upper(k: u64) -> u64 {
         k
+    }
+
+    fn read(bytes: &[u8]) -> u64 {
+        match bytes {
+            [a, b, c, d, e, f, g, h, ..] => u64::from_be_bytes([*a, *b, *c, *d, *e, *f, *g, *h]),
+            _ => 0,
+        }
+    }
+
+    fn write(self, out: &mut [u8]) {
+        if out.len() >= 8 {
+            out[0..8].copy_from_slice(&self.to_be_bytes());
+        }
     }
 }
