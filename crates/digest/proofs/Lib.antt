@@ -1,0 +1,5 @@
+pub mod Buffer
+pub mod Padding
+pub mod Blocks
+pub mod Output
+pub mod Accepted

@@ -1,0 +1,4 @@
+pub mod Padding
+pub mod Hash
+pub mod Answer
+pub mod Buffer
