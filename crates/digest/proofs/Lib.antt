@@ -3,3 +3,4 @@ pub mod Padding
 pub mod Blocks
 pub mod Output
 pub mod Accepted
+pub mod Joining

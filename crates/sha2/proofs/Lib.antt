@@ -1,3 +1,4 @@
 pub mod Schedule
 pub mod Rounds
 pub mod Window
+pub mod Recursion

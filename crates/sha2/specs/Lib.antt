@@ -3,3 +3,4 @@ pub mod Bytes
 pub mod Words
 pub mod Block
 pub mod Window
+pub mod Schedule

@@ -1,7 +1,7 @@
 -- The code's rolling window: of the schedule only sixteen words are kept.
 use mathlib.Core.List.{List, [], _∷_}
 use mathlib.Core.Path.{_≡_}
-use Prim.Native.Nat.{ℕ, _+_}
+use Prim.Native.Nat.{ℕ, zero, suc, _+_}
 use lib.ListN.{drop}
 use Rattle.sha2.specs.declared.block.State.{State}
 use Rattle.sha2.specs.declared.block.Words.{Words}
@@ -11,6 +11,11 @@ use Rattle.sha2.specs.Block.{Eight, oneMore, extended, roundsFrom}
 -- the window one word on: its first word goes, and the next of the schedule comes behind the last
 unfoldable pub shifted : Variant → List ℕ → List ℕ
 shifted v ws = drop 1 (oneMore v ws)
+
+-- the window after n words have gone
+unfoldable pub windowAfter : Variant → ℕ → List ℕ → List ℕ
+windowAfter v zero ws = ws
+windowAfter v (suc n) ws = windowAfter v n (shifted v ws)
 
 -- n rounds from round t on, where ws are the sixteen schedule words from W_t on
 unfoldable pub roundsLeft : Variant → ℕ → List ℕ → ℕ → Eight → Eight

@@ -2,5 +2,5 @@
 mod block;
 mod word;
 
-pub use block::{State, Words, compress};
+pub use block::{State, Words, compress, schedule_stands};
 pub use word::{U32Word, U64Word, Word};
