@@ -4,14 +4,11 @@ ghost use lib.ListN.{length};
 ghost use mathlib.Core.List.{List};
 ghost use mathlib.Core.Logic.{_⊎_};
 ghost use mathlib.Core.Path.{_≡_};
-ghost use Rattle.digest.specs.Answer.{accepts, answer, written};
+ghost use Rattle.digest.specs.Answer.{answer as answerOf, written};
 ghost use Rattle.digest.specs.Hash.{sha256, sha512};
-use crate::hash::hash;
+use crate::answer::answer;
 use crate::refusal::Refusal;
 use sha2::{U32Word, U64Word};
-
-// The longest joined string that is hashed.
-pub const LIMIT: usize = 4352;
 
 // A digest: one fixed function from a string to `LEN` bytes, asked by the two parts of the string.
 pub trait Digest {
@@ -39,15 +36,8 @@ pub trait Digest {
 
     // Writes the digest of `first` joined to `second` into `out`. Refused, it leaves `out` all zeros.
     fn digest(&self, first: &[u8], second: &[u8], out: &mut [u8]) -> Result<(), Refusal>
-        ensures answer { λ r. ⌜ r ≡ answer size (now (first .entry)) (now (second .entry)) (now (out .entry)) ⌝ }
+        ensures answer { λ r. ⌜ r ≡ answerOf size (now (first .entry)) (now (second .entry)) (now (out .entry)) ⌝ }
         ensures bytes { λ _. ⌜ now (out .exit) ≡ written size meaning (now (first .entry)) (now (second .entry)) (now (out .entry)) ⌝ };
-}
-
-// Whether the lengths fit a digest of `size` bytes.
-fn fits(size: usize, first: &[u8], second: &[u8], out: &[u8]) -> bool
-    ensures { λ r. ⌜ r ≡ accepts size (now (first .entry)) (now (second .entry)) (now (out .entry)) ⌝ }
-{
-    out.len() == size && first.len() <= LIMIT && second.len() <= LIMIT - first.len()
 }
 
 #[derive(Clone, Copy)]
@@ -72,12 +62,7 @@ pub impl Digest for Sha256 as Sha256Digest {
     }
 
     fn digest(&self, first: &[u8], second: &[u8], out: &mut [u8]) -> Result<(), Refusal> {
-        if !fits(32, first, second, out) {
-            out.fill(0);
-            return Err(Refusal::Length);
-        }
-        hash::<u32>(first, second, out);
-        Ok(())
+        answer::<u32>(32, first, second, out)
     }
 }
 
@@ -103,11 +88,6 @@ pub impl Digest for Sha512 as Sha512Digest {
     }
 
     fn digest(&self, first: &[u8], second: &[u8], out: &mut [u8]) -> Result<(), Refusal> {
-        if !fits(64, first, second, out) {
-            out.fill(0);
-            return Err(Refusal::Length);
-        }
-        hash::<u64>(first, second, out);
-        Ok(())
+        answer::<u64>(64, first, second, out)
     }
 }

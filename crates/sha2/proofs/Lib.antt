@@ -2,3 +2,4 @@ pub mod Schedule
 pub mod Rounds
 pub mod Window
 pub mod Recursion
+pub mod Bitwise

@@ -1,6 +1,10 @@
 // SHA-2's words and block step, one text for words of 32 and of 64 bits.
 mod block;
 mod word;
+mod word32;
+mod word64;
 
 pub use block::{State, Words, compress, schedule_stands};
-pub use word::{U32Word, U64Word, Word};
+pub use word::Word;
+pub use word32::U32Word;
+pub use word64::U64Word;

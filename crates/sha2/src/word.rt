@@ -1,4 +1,4 @@
-// What the block step asks of a word, and the two words that answer.
+// What the block step asks of a word.
 ghost use Prim.Native.Nat.{ℕ, _/_, _%_, _≤_};
 ghost use lib.Dec.{leb};
 ghost use lib.ListN.{drop, length, take};
@@ -8,7 +8,7 @@ ghost use mathlib.Core.Logic.{_⊎_};
 ghost use mathlib.Core.Path.{_≡_};
 ghost use Rattle.constants.specs.Rule.{roundConstants};
 ghost use Rattle.sha2.specs.Bytes.{bigEndian, number};
-ghost use Rattle.sha2.specs.Variant.{Variant, upper as upperBits, words32, words64};
+ghost use Rattle.sha2.specs.Variant.{Variant, upper as upperBits};
 ghost use Rattle.sha2.specs.Words.{plus as sum, bigSigma0, bigSigma1, smallSigma0, smallSigma1, choice as chosen, majority as most};
 
 pub trait Word: Copy {
@@ -63,122 +63,4 @@ pub trait Word: Copy {
     // Writes the word's bytes over the first ones of `out`, unless they are too few.
     fn write(self, out: &mut [u8])
         ensures { λ _. ⌜ now (out .exit) ≡ cond (leb (variant .bits / 8) (length (now (out .entry)))) (bigEndian (variant .bits / 8) (value self) ++ drop (variant .bits / 8) (now (out .entry))) (now (out .entry)) ⌝ };
-}
-
-pub impl Word for u32 as U32Word {
-    ghost value = { λ x. x };
-
-    ghost variant = { words32 };
-
-    fn size() -> usize {
-        4
-    }
-
-    fn rounds() -> usize {
-        64
-    }
-
-    fn plus(self, other: u32) -> u32 {
-        self.wrapping_add(other)
-    }
-
-    fn big_sigma0(self) -> u32 {
-        self.rotate_right(2) ^ self.rotate_right(13) ^ self.rotate_right(22)
-    }
-
-    fn big_sigma1(self) -> u32 {
-        self.rotate_right(6) ^ self.rotate_right(11) ^ self.rotate_right(25)
-    }
-
-    fn small_sigma0(self) -> u32 {
-        self.rotate_right(7) ^ self.rotate_right(18) ^ (self >> 3)
-    }
-
-    fn small_sigma1(self) -> u32 {
-        self.rotate_right(17) ^ self.rotate_right(19) ^ (self >> 10)
-    }
-
-    fn choice(self, y: u32, z: u32) -> u32 {
-        (self & y) ^ (!self & z)
-    }
-
-    fn majority(self, y: u32, z: u32) -> u32 {
-        (self & y) ^ (self & z) ^ (y & z)
-    }
-
-    fn upper(k: u64) -> u32 {
-        (k >> 32) as u32
-    }
-
-    fn read(bytes: &[u8]) -> u32 {
-        match bytes {
-            [a, b, c, d, ..] => u32::from_be_bytes([*a, *b, *c, *d]),
-            _ => 0,
-        }
-    }
-
-    fn write(self, out: &mut [u8]) {
-        if out.len() >= 4 {
-            out[0..4].copy_from_slice(&self.to_be_bytes());
-        }
-    }
-}
-
-pub impl Word for u64 as U64Word {
-    ghost value = { λ x. x };
-
-    ghost variant = { words64 };
-
-    fn size() -> usize {
-        8
-    }
-
-    fn rounds() -> usize {
-        80
-    }
-
-    fn plus(self, other: u64) -> u64 {
-        self.wrapping_add(other)
-    }
-
-    fn big_sigma0(self) -> u64 {
-        self.rotate_right(28) ^ self.rotate_right(34) ^ self.rotate_right(39)
-    }
-
-    fn big_sigma1(self) -> u64 {
-        self.rotate_right(14) ^ self.rotate_right(18) ^ self.rotate_right(41)
-    }
-
-    fn small_sigma0(self) -> u64 {
-        self.rotate_right(1) ^ self.rotate_right(8) ^ (self >> 7)
-    }
-
-    fn small_sigma1(self) -> u64 {
-        self.rotate_right(19) ^ self.rotate_right(61) ^ (self >> 6)
-    }
-
-    fn choice(self, y: u64, z: u64) -> u64 {
-        (self & y) ^ (!self & z)
-    }
-
-    fn majority(self, y: u64, z: u64) -> u64 {
-        (self & y) ^ (self & z) ^ (y & z)
-    }
-
-    fn upper(k: u64) -> u64 {
-        k
-    }
-
-    fn read(bytes: &[u8]) -> u64 {
-        match bytes {
-            [a, b, c, d, e, f, g, h, ..] => u64::from_be_bytes([*a, *b, *c, *d, *e, *f, *g, *h]),
-            _ => 0,
-        }
-    }
-
-    fn write(self, out: &mut [u8]) {
-        if out.len() >= 8 {
-            out[0..8].copy_from_slice(&self.to_be_bytes());
-        }
-    }
 }
