@@ -22,8 +22,8 @@ none-divides p zero h d low high z = omega arith
 none-divides p (suc n) h d low high z =
     let parts = one-divisor (eqb (p % suc (suc n)) 0) (undivided p n) h in
     elim (cases-lt d (n + 2)) [
-      inl below ↦ none-divides p n (parts .1) d low below z
-    | inr above ↦ eqb-false (p % suc (suc n)) 0 (parts .0) (subst (λ k. p % k ≡ 0) (omega arith) z)
+      | inl below ↦ none-divides p n (parts .1) d low below z
+      | inr above ↦ eqb-false (p % suc (suc n)) 0 (parts .0) (subst (λ k. p % k ≡ 0) (omega arith) z)
     ]
 
 pub prime-from-test : (p : ℕ) → isPrime p ≡ true → Prime p
@@ -48,10 +48,10 @@ one-more n t false e below before =
     earlier n t [] h (before h)
 one-more n t true e below before =
     elim (cases-lt t (length (primesBelow n))) [
-      inl h ↦ earlier n t (n ∷ []) h (before h)
-    | inr h ↦
-        let last : length (primesBelow n) ≡ t = omega (arith, length-push (primesBelow n) n) in
-        subst (Place t) (sym (getD-push (primesBelow n) n 0 t last)) (e, last)
+      | inl h ↦ earlier n t (n ∷ []) h (before h)
+      | inr h ↦
+          let last : length (primesBelow n) ≡ t = omega (arith, length-push (primesBelow n) n) in
+          subst (Place t) (sym (getD-push (primesBelow n) n 0 t last)) (e, last)
     ]
 
 place : (n t : ℕ) → t < length (primesBelow n) → Place t (getD (primesBelow n) t 0)

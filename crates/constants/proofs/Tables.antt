@@ -27,13 +27,18 @@ in-range-at e (p ∷ ps) (suc t) h below = in-range-at e ps t (and-parts (ltb (p
 
 from-test : (e m n : ℕ) → 0 ^ e ≡ 0 → length (primesBelow m) ≡ n → inRange e (primesBelow m) ≡ true → RootTable e n (map (constantOf e) (primesBelow m))
 unfolding constantOf
-from-test e m n none count range =
-    (length-map (primesBelow m) (constantOf e) ∙ count, λ t h.
+from-test e m n none count range = (
+  length-map (primesBelow m) (constantOf e) ∙ count,
+  λ t h.
       let below : t < length (primesBelow m) = omega (arith, count) in
-      let p = getD (primesBelow m) t 0 in
-      (p, rootFrom e (p * 2 ^ (64 * e)) 72 0, nth-prime m t below,
+      let p = getD (primesBelow m) t 0 in (
+        p,
+        rootFrom e (p * 2 ^ (64 * e)) 72 0,
+        nth-prime m t below,
         greatest e (p * 2 ^ (64 * e)) 72 0 (omega (arith, none)) (in-range-at e (primesBelow m) t range below),
-        getD-map (constantOf e) (primesBelow m) t 0 0 below))
+        getD-map (constantOf e) (primesBelow m) t 0 0 below,
+      ),
+)
 
 pub round-rule : RootTable 3 80 roundConstants
 unfolding undivided isPrime primesBelow inRange roundConstants

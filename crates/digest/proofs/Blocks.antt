@@ -60,7 +60,7 @@ module _ (v : Variant) (xs more : List ℕ) where
       let short : ℕ → ℕ = λ j. wordAt v xs (16 * i + j) in
       fill-by-all short (map long (counting 0 16)) 16 0 (length-map-counting long 0 16)
       (λ k h. getD-map-counting long 0 16 k k 0 h (zero-add k) ∙ word-front (16 * i + k)
-        (let w = v .bits / 8 in omega (arith, mul-le-mul-right w (inner i k h))))
+      (let w = v .bits / 8 in omega (arith, mul-le-mul-right w (inner i k h))))
 
   pub state-front : (start : Eight) (n : ℕ) → n * (16 * (v .bits / 8)) ≤ length xs → stateAfter v start (xs ++ more) n ≡ stateAfter v start xs n
   unfolding stateAfter

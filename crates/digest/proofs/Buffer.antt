@@ -24,7 +24,7 @@ module _ (front buf : List ℕ) (at : ℕ) (filled : Filled front buf) (behind :
       let rest : 4480 - length front - (at - length front) ≡ 4480 - at = omega arith in
       ap (drop n)
       (ap₂ drop place filled ∙ drop-append-add front (replicate (4480 - length front) 0) (at - length front)
-        ∙ drop-replicate (at - length front) (4480 - length front) 0 ∙ ap (λ k. replicate k 0) rest)
+      ∙ drop-replicate (at - length front) (4480 - length front) 0 ∙ ap (λ k. replicate k 0) rest)
       ∙ drop-replicate n (4480 - at) 0
 
 -- bytes at a place behind the front: zeros fill the gap
@@ -33,7 +33,7 @@ pub put-behind : (front bytes buf : List ℕ) (at n : ℕ) → n ≡ length byte
 put-behind front bytes buf at n count inside filled behind =
     let gap : List ℕ = replicate (at - length front) 0 in
     let long : length (front ++ gap ++ bytes) ≡ at + length bytes =
-      length-append (front ++ gap) bytes ∙ ap (λ k. k + length bytes) (length-append front gap ∙ ap (λ k. length front + k) (length-replicate (at - length front) 0) ∙ omega arith) in
+    length-append (front ++ gap) bytes ∙ ap (λ k. k + length bytes) (length-append front gap ∙ ap (λ k. length front + k) (length-replicate (at - length front) 0) ∙ omega arith) in
     let rest : 4480 - at - n ≡ 4480 - length (front ++ gap ++ bytes) = omega arith in
     ap₂ (λ xs ys. xs ++ (bytes ++ ys)) (before front buf at filled behind (omega arith)) (after front buf at filled behind (omega arith) n ∙ ap (λ k. replicate k 0) rest)
     ∙ sym (append-assoc (front ++ gap) bytes (replicate (4480 - length (front ++ gap ++ bytes)) 0))

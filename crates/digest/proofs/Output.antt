@@ -39,8 +39,8 @@ written-word v out new at n k x word count long inside made =
     let enough = le-leb w (length (midOf at k out)) (omega (arith, part)) in
     let none : drop w (midOf at k out) ≡ [] = drop-all w (midOf at k out) (omega (arith, part)) in
     let is : new ≡ bigEndian w x =
-      made ∙ cond-true (leb w (length (midOf at k out))) (bigEndian w x ++ drop w (midOf at k out)) (midOf at k out) enough
-      ∙ ap (λ ys. bigEndian w x ++ ys) none ∙ append-nil (bigEndian w x) in
+    made ∙ cond-true (leb w (length (midOf at k out))) (bigEndian w x ++ drop w (midOf at k out)) (midOf at k out) enough
+    ∙ ap (λ ys. bigEndian w x ++ ys) none ∙ append-nil (bigEndian w x) in
     let size : length new ≡ w = ap length is ∙ length-bigEndian w x in
     take-putMid at k out new (at + w) (omega (arith, size)) (omega arith) ∙ ap (λ ys. take at out ++ ys) is
 

@@ -29,8 +29,8 @@ length-padded v m =
     let z = replicate (zeros v n) 0 in
     length-append (m ++ (0x80 ∷ []) ++ z) (bigEndian (lengthBytes v) (8 * n))
     ∙ ap₂ (λ x y. x + y)
-      (length-append (m ++ (0x80 ∷ [])) z ∙ ap₂ (λ x y. x + y) (length-append m (0x80 ∷ [])) (length-replicate (zeros v n) 0))
-      (length-bigEndian (lengthBytes v) (8 * n))
+    (length-append (m ++ (0x80 ∷ [])) z ∙ ap₂ (λ x y. x + y) (length-append m (0x80 ∷ [])) (length-replicate (zeros v n) 0))
+    (length-bigEndian (lengthBytes v) (8 * n))
 
 -- eight bytes hold a small number
 pub eight-bytes : (x : ℕ) (bytes : List ℕ)

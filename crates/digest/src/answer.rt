@@ -19,7 +19,12 @@ fn fits(size: usize, first: &[u8], second: &[u8], out: &[u8]) -> bool
 }
 
 // The first `size` bytes of the hash of `first` joined to `second`, into `out`.
-pub(crate) fn answer<W: Word>(size: usize, first: &[u8], second: &[u8], out: &mut [u8]) -> Result<(), Refusal>
+pub(crate) fn answer<W: Word>(
+    size: usize,
+    first: &[u8],
+    second: &[u8],
+    out: &mut [u8],
+) -> Result<(), Refusal>
     requires { ⌜ size ≤ variant .bits ⌝ }
     ensures answer { λ r. ⌜ r ≡ answerOf size (now (first .entry)) (now (second .entry)) (now (out .entry)) ⌝ }
     ensures bytes { λ _. ⌜ now (out .exit) ≡ written size (hashOf variant startingWords size) (now (first .entry)) (now (second .entry)) (now (out .entry)) ⌝ }

@@ -10,7 +10,10 @@ ghost use Rattle.digest.specs.Padding.{padded};
 ghost use Rattle.sha2.specs.Bytes.{bigEndian};
 ghost use Rattle.sha2.specs.Window.{eight, sixteen};
 use constants::starting_words;
-use sha2::{State, Word, Words, compress};
+use sha2::State;
+use sha2::Word;
+use sha2::Words;
+use sha2::compress;
 
 // Writes the bytes at a place of a buffer that is zeros from there on.
 fn put(buf: &mut [u8; 4480], at: usize, bytes: &[u8])

@@ -8,12 +8,14 @@ ghost use Rattle.digest.specs.Answer.{answer as answerOf, written};
 ghost use Rattle.digest.specs.Hash.{sha256, sha512};
 use crate::answer::answer;
 use crate::refusal::Refusal;
-use sha2::{U32Word, U64Word};
+use sha2::U32Word;
+use sha2::U64Word;
 
 // A digest: one fixed function from a string to `LEN` bytes, asked by the two parts of the string.
 pub trait Digest {
     // The bytes of a digest, and the number by which a label names the function.
     const LEN: usize;
+
     const NUMBER: u32;
 
     ghost size: { ℕ };
@@ -45,6 +47,7 @@ pub struct Sha256;
 
 pub impl Digest for Sha256 as Sha256Digest {
     const LEN: usize = 32;
+
     const NUMBER: u32 = 1;
 
     ghost size = { 32 };
@@ -71,6 +74,7 @@ pub struct Sha512;
 
 pub impl Digest for Sha512 as Sha512Digest {
     const LEN: usize = 64;
+
     const NUMBER: u32 = 2;
 
     ghost size = { 64 };

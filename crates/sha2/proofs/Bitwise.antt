@@ -26,8 +26,8 @@ and-low a b = and-mod a b 1
 one-bit : (P : ℕ → Type 0) → P 0 → P 1 → (x : ℕ) → P (x % 2)
 one-bit P zero-bit set-bit x =
     elim (cases-eq (x % 2) 0) [
-      inl e ↦ subst P (sym e) zero-bit
-    | inr ne ↦ subst P (let e : 1 ≡ x % 2 = omega arith in e) set-bit
+      | inl e ↦ subst P (sym e) zero-bit
+      | inr ne ↦ subst P (let e : 1 ≡ x % 2 = omega arith in e) set-bit
     ]
 
 three-bits : (P : ℕ → ℕ → ℕ → Type 0) → P 0 0 0 → P 0 0 1 → P 0 1 0 → P 0 1 1 → P 1 0 0 → P 1 0 1 → P 1 1 0 → P 1 1 1 → (x y z : ℕ) → P (x % 2) (y % 2) (z % 2)
@@ -54,7 +54,7 @@ choice-bits (suc k) x y z hx hy hz =
     by-bits
     (simp (xor-half, and-half) (choice-bits k (x / 2) (y / 2) (z / 2) (omega arith) (omega arith) (omega arith) ∙ ap (λ c. bitXor (bitAnd (x / 2) (y / 2)) (bitAnd c (z / 2))) (sym half)))
     (simp (xor-low, and-low, low)
-      (three-bits (λ i j l. Ch i j l ≡ bitXor (bitAnd i j) (bitAnd (1 - i) l)) refl refl refl refl refl refl refl refl x y z))
+    (three-bits (λ i j l. Ch i j l ≡ bitXor (bitAnd i j) (bitAnd (1 - i) l)) refl refl refl refl refl refl refl refl x y z))
 
 abbrev Maj : ℕ → ℕ → ℕ → ℕ
 Maj x y z = bitXor y (bitAnd (bitXor x y) (bitXor y z))
@@ -65,4 +65,4 @@ majority-bits (suc k) x y z hx hy hz =
     by-bits
     (simp (xor-half, and-half) (majority-bits k (x / 2) (y / 2) (z / 2) (omega arith) (omega arith) (omega arith)))
     (simp (xor-low, and-low)
-      (three-bits (λ i j l. Maj i j l ≡ bitXor (bitXor (bitAnd i j) (bitAnd i l)) (bitAnd j l)) refl refl refl refl refl refl refl refl x y z))
+    (three-bits (λ i j l. Maj i j l ≡ bitXor (bitXor (bitAnd i j) (bitAnd i l)) (bitAnd j l)) refl refl refl refl refl refl refl refl x y z))

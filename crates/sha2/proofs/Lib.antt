@@ -3,3 +3,4 @@ pub mod Rounds
 pub mod Window
 pub mod Recursion
 pub mod Bitwise
+pub mod Rotations

@@ -68,12 +68,12 @@ module _ (v : Variant) (block : List ℕ) (enough : 16 ≤ v .rounds) (long : le
     first = λ t below. kept v (v .rounds - 16) t block (omega arith);
     later = later;
     window = λ t i fits inside.
-      let m = v .rounds - 16 - t in
-      let all : t + m ≡ v .rounds - 16 = omega arith in
-      sym (kept v m i (windowAfter v t block) (omega (arith, length-window v t block long)))
-      ∙ ap (λ xs. getD xs i 0) (sym (window-is v t m block long))
-      ∙ getD-drop t (extended v (t + m) block) i 0
-      ∙ ap (λ k. getD (extended v k block) (t + i) 0) all;
+        let m = v .rounds - 16 - t in
+        let all : t + m ≡ v .rounds - 16 = omega arith in
+        sym (kept v m i (windowAfter v t block) (omega (arith, length-window v t block long)))
+        ∙ ap (λ xs. getD xs i 0) (sym (window-is v t m block long))
+        ∙ getD-drop t (extended v (t + m) block) i 0
+        ∙ ap (λ k. getD (extended v k block) (t + i) 0) all;
   }
 
 pub schedule-stands : ScheduleStands

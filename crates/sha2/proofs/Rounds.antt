@@ -38,7 +38,7 @@ module _ (v : Variant) where
   unfolding roundsLeft
   one-round t ws s long m =
       let word : getD (extended v (suc m) ws) 0 0 ≡ getD ws 0 0 =
-        let g = grown v (suc m) ws in ap (λ xs. getD xs 0 0) (g .1) ∙ getD-append-left ws (g .0) 0 0 (omega arith) in
+      let g = grown v (suc m) ws in ap (λ xs. getD xs 0 0) (g .1) ∙ getD-append-left ws (g .0) 0 0 (omega arith) in
       ap (λ n. roundsFrom v t (extended v n ws) n s) (one-add m)
       ∙ first-round t m (extended v (suc m) ws) s
       ∙ ap (λ xs. roundsFrom v (t + 1) xs m (round v (getD (v .constants) t 0) (getD (extended v (suc m) ws) 0 0) s)) (extended-shifted v m ws long)

@@ -59,7 +59,11 @@ fn constant<W: Word>(t: usize) -> W
 fn round<W: Word>(s: State<W>, k: W, w: W) -> State<W>
     ensures { λ r. ⌜ eight value r ≡ oneRound variant (value k) (value w) (eight value s) ⌝ }
 {
-    let t1 = s.h.plus(s.e.big_sigma1()).plus(s.e.choice(s.f, s.g)).plus(k).plus(w);
+    let t1 = s.h
+        .plus(s.e.big_sigma1())
+        .plus(s.e.choice(s.f, s.g))
+        .plus(k)
+        .plus(w);
     let t2 = s.a.big_sigma0().plus(s.a.majority(s.b, s.c));
     State {
         a: t1.plus(t2),
@@ -93,7 +97,11 @@ fn shift<W: Word>(w: Words<W>) -> Words<W>
         w12: w.w13,
         w13: w.w14,
         w14: w.w15,
-        w15: w.w14.small_sigma1().plus(w.w9).plus(w.w1.small_sigma0()).plus(w.w0),
+        w15: w.w14
+            .small_sigma1()
+            .plus(w.w9)
+            .plus(w.w1.small_sigma0())
+            .plus(w.w0),
     }
 }
 
@@ -154,7 +162,10 @@ pub fn compress<W: Word>(state: State<W>, block: Words<W>) -> State<W>
     ensures { λ r. ⌜ eight value r ≡ blockStep variant (eight value state) (sixteen value block) ⌝ }
 {
     let turns = W::rounds() / 16 - 1;
-    let mut work = Work { state, window: block };
+    let mut work = Work {
+        state,
+        window: block,
+    };
     for i in 0..turns {
         work = turn::<W, false>(work, 16 * i);
     }

@@ -24,7 +24,8 @@ pub impl Word for u32 as U32Word {
     }
 
     fn big_sigma1(self) -> u32 {
-        self.rotate_right(6) ^ self.rotate_right(11) ^ self.rotate_right(25)
+        // by 6, 11 and 25: each rotation goes on from the one inside it
+        (self ^ (self ^ self.rotate_right(14)).rotate_right(5)).rotate_right(6)
     }
 
     fn small_sigma0(self) -> u32 {

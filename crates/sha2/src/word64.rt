@@ -24,7 +24,8 @@ pub impl Word for u64 as U64Word {
     }
 
     fn big_sigma1(self) -> u64 {
-        self.rotate_right(14) ^ self.rotate_right(18) ^ self.rotate_right(41)
+        // by 14, 18 and 41: each rotation goes on from the one inside it
+        (self ^ (self ^ self.rotate_right(23)).rotate_right(4)).rotate_right(14)
     }
 
     fn small_sigma0(self) -> u64 {

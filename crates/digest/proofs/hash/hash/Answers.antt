@@ -12,4 +12,4 @@ returns g c =
     let size = length (c .args .out .now) in
     kept size (v .bits) _ (c .state-bytes-bytes .result) (c .copy-from-slice .last .self) (c .pre .1) (c .state-bytes-bytes .ensures) (c .copy-from-slice .ensures .after)
     ∙ ap (λ s. take size (stateBytes v s))
-      (c .digested .ensures ∙ ap (λ s. lastState v s (c .args .first .now ++ c .args .second .now)) (c .starting-state .ensures))
+    (c .digested .ensures ∙ ap (λ s. lastState v s (c .args .first .now ++ c .args .second .now)) (c .starting-state .ensures))

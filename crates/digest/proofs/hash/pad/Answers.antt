@@ -25,7 +25,7 @@ returns g c =
     let len : end ≡ length (padded v m) = whole v bits m n w count (c .size-word .ensures) in
     let tail : c .to-be-bytes .result ≡ bigEndian 8 (8 * length m) = eight-bytes (8 * n) _ (c .to-be-bytes .ensures) ∙ ap (λ k. bigEndian 8 (8 * k)) count in
     let filled = four-writes first second (c .to-be-bytes .result) (c .args .buf .now) (c .put .last .buf) (c .put-2 .last .buf) (c .put-3 .last .buf) (c .put-4 .last .buf)
-      n (end - 8) refl (c .pre .1) (c .put .ensures) (c .put-2 .ensures) (c .put-3 .ensures) (c .put-4 .ensures) (room v bits m n end count len) in
+    n (end - 8) refl (c .pre .1) (c .put .ensures) (c .put-2 .ensures) (c .put-3 .ensures) (c .put-4 .ensures) (room v bits m n end count len) in
     record {
       len = len;
       bytes = subst (λ xs. Filled xs (c .put-4 .last .buf)) (ap (λ xs. m ++ (0x80 ∷ []) ++ replicate (end - 8 - length (m ++ (0x80 ∷ []))) 0 ++ xs) tail ∙ written-tail v bits m end (omega (arith, count)) len) filled;

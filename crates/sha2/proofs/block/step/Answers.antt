@@ -7,4 +7,4 @@ pub returns : need.returns
 returns g c =
     let value = g .W·Word .value in
     one-step (g .W·Word .variant) _ _ (sixteen value (c .args .work .window)) _ (eight value (c .args .work .state)) _ refl
-      (c .constant .ensures) (c .round .ensures) (c .shift .ensures)
+    (c .constant .ensures) (c .round .ensures) (c .shift .ensures)

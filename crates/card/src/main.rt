@@ -1,0 +1,31 @@
+// The command line program. Its one command so far prints the digests of files.
+mod command;
+mod fault;
+mod file;
+mod function;
+mod hex;
+mod sum;
+
+use command::Command;
+use fault::Fault;
+use fault::FaultDisplay;
+use fault::FaultFromIo;
+use std::env;
+
+fn run(rt: &LibcRuntime) -> Result<(), Fault> {
+    let mut words = env::args(rt)?;
+    let _program = words.next();
+    match Command::parse(rt.alloc(), words)? {
+        Command::Sum { function, files } => sum::print_sums(rt, function, files.as_slice()),
+    }
+}
+
+fn main(rt: LibcRuntime) -> Result<(), Fault> {
+    let result = run(&rt);
+    match &result {
+        // each of these files has its line already
+        Ok(()) | Err(Fault::Files) => {}
+        Err(fault) => eprintln!(rt, "card: {fault}")?,
+    }
+    result
+}
