@@ -1,0 +1,4 @@
+pub mod Shape
+pub mod Tree
+pub mod Path
+pub mod Laws
