@@ -19,12 +19,12 @@ use Rattle.geometry.proofs.Counting.{at-most-seven, rounded-le}
 block-sizes : (n : ℕ) → isBlockSize n ≡ true → (512 ≤ n) × (n ≤ 4096)
 block-sizes n h =
     elim (or-cases (eqb n 512 || eqb n 1024 || eqb n 2048) (eqb n 4096) h) [
-      inr e ↦ let is = eqb-true n 4096 e in (omega arith, omega arith)
-    | inl h₁ ↦ elim (or-cases (eqb n 512 || eqb n 1024) (eqb n 2048) h₁) [
-        inr e ↦ let is = eqb-true n 2048 e in (omega arith, omega arith)
-      | inl h₂ ↦ elim (or-cases (eqb n 512) (eqb n 1024) h₂) [
-          inr e ↦ let is = eqb-true n 1024 e in (omega arith, omega arith)
-        | inl e ↦ let is = eqb-true n 512 e in (omega arith, omega arith)
+      | inr e ↦ let is = eqb-true n 4096 e in (omega arith, omega arith)
+      | inl h₁ ↦ elim (or-cases (eqb n 512 || eqb n 1024) (eqb n 2048) h₁) [
+        | inr e ↦ let is = eqb-true n 2048 e in (omega arith, omega arith)
+        | inl h₂ ↦ elim (or-cases (eqb n 512) (eqb n 1024) h₂) [
+          | inr e ↦ let is = eqb-true n 1024 e in (omega arith, omega arith)
+          | inl e ↦ let is = eqb-true n 512 e in (omega arith, omega arith)
         ]
       ]
     ]
@@ -32,8 +32,8 @@ block-sizes n h =
 quotient : (n l : ℕ) → 512 ≤ n → n ≤ 4096 → isSlot l ≡ true → (8 ≤ n / l) × (n / l ≤ 128)
 quotient n l low high h =
     elim (or-cases (eqb l 32) (eqb l 64) h) [
-      inl e ↦ subst (λ k. (8 ≤ n / k) × (n / k ≤ 128)) (sym (eqb-true l 32 e)) (omega arith, omega arith)
-    | inr e ↦ subst (λ k. (8 ≤ n / k) × (n / k ≤ 128)) (sym (eqb-true l 64 e)) (omega arith, omega arith)
+      | inl e ↦ subst (λ k. (8 ≤ n / k) × (n / k ≤ 128)) (sym (eqb-true l 32 e)) (omega arith, omega arith)
+      | inr e ↦ subst (λ k. (8 ≤ n / k) × (n / k ≤ 128)) (sym (eqb-true l 64 e)) (omega arith, omega arith)
     ]
 
 -- a shape within the limits

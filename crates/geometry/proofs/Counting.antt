@@ -21,17 +21,17 @@ pub least-is : (f n r : ℕ) → 2 ≤ f → n ≤ f ^ r → ((m : ℕ) → m < 
 least-is f n r two enough fewer =
     let law = levels-stand f n two in
     elim (cases-order r (levelsOf f n)) [
-      inl same ↦ same
-    | inr (inl below) ↦ absurd (omega (arith, law .1 r below))
-    | inr (inr above) ↦ absurd (omega (arith, fewer (levelsOf f n) above, law .0))
+      | inl same ↦ same
+      | inr (inl below) ↦ absurd (omega (arith, law .1 r below))
+      | inr (inr above) ↦ absurd (omega (arith, fewer (levelsOf f n) above, law .0))
     ]
 
 -- seven levels are enough within the limits
 pub at-most-seven : (f n r : ℕ) → 8 ≤ f → n ≤ 1048576 → ((m : ℕ) → m < r → f ^ m < n) → r ≤ 7
 at-most-seven f n r wide few fewer =
     elim (cases-lt 7 r) [
-      inl more ↦ absurd (omega (arith, fewer 7 more, pow-le-pow-left wide 7))
-    | inr le ↦ le
+      | inl more ↦ absurd (omega (arith, fewer 7 more, pow-le-pow-left wide 7))
+      | inr le ↦ le
     ]
 
 -- no power of a fanout, through seven levels, comes near the end of a machine word

@@ -18,7 +18,12 @@ impl Geometry {
     pub fn new(data_block: usize, hash_block: usize, blocks: usize, slot: usize) -> Option<Geometry>
         ensures { λ r. ⌜ MadeOf (shape «data_block» «hash_block» blocks slot) r ⌝ }
     {
-        if !is_block_size(data_block) || !is_block_size(hash_block) || blocks < 1 || blocks > 1048576 || slot != 32 && slot != 64 {
+        if !is_block_size(data_block)
+            || !is_block_size(hash_block)
+            || blocks < 1
+            || blocks > 1048576
+            || slot != 32 && slot != 64
+        {
             return None;
         }
         let fanout = hash_block / slot;
@@ -98,7 +103,11 @@ impl Geometry {
     pub fn tree_blocks(&self) -> usize
         ensures { λ r. ⌜ r ≡ treeBlocksOf (shapeOf (now (self .entry))) ⌝ }
     {
-        if self.levels == 0 { 0 } else { self.width(1) + self.start(0) }
+        if self.levels == 0 {
+            0
+        } else {
+            self.width(1) + self.start(0)
+        }
     }
 
     // Bytes of the tree.

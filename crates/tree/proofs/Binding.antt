@@ -27,9 +27,9 @@ each-or P X (suc n) try =
     elim (try n (omega arith)) [
       | inr x ↦ inr x
       | inl last ↦ elim (each-or P X n (λ j h. try j (omega arith))) [
-          | inr x ↦ inr x
-          | inl before ↦ inl (λ j h. elim (cases-lt j n) [ | inl l ↦ before j l | inr l ↦ subst P (omega arith) last ])
-        ]
+        | inr x ↦ inr x
+        | inl before ↦ inl (λ j h. elim (cases-lt j n) [ inl l ↦ before j l | inr l ↦ subst P (omega arith) last ])
+      ]
     ]
 
 module _ (h : List ℕ → List ℕ) (s : Shape) (size : ℕ) (sound : Sound h s size) (a b : List ℕ)
@@ -52,7 +52,7 @@ module _ (h : List ℕ → List ℕ) (s : Shape) (size : ℕ) (sound : Sound h s
 
   decided : (i j : ℕ) → j < width s i → h (node h s a i j) ≡ h (node h s b i j) → (node h s a i j ≡ node h s b i j) ⊎ Collision h s a b
   decided i j there digests =
-      elim (same-or-not (node h s a i j) (node h s b i j)) [ | inl e ↦ inl e | inr d ↦ inr (i, j, lengths i j there, d, digests) ]
+      elim (same-or-not (node h s a i j) (node h s b i j)) [ inl e ↦ inl e | inr d ↦ inr (i, j, lengths i j there, d, digests) ]
 
   step : (i : ℕ) → Same (suc i) → Same i ⊎ Collision h s a b
   unfolding Same
@@ -64,7 +64,7 @@ module _ (h : List ℕ → List ℕ) (s : Shape) (size : ℕ) (sound : Sound h s
 
   down : (i : ℕ) → Same i → Same 0 ⊎ Collision h s a b
   down zero same = inl same
-  down (suc i) same = elim (step i same) [ | inl e ↦ down i e | inr x ↦ inr x ]
+  down (suc i) same = elim (step i same) [ inl e ↦ down i e | inr x ↦ inr x ]
 
   top : root h s a ≡ root h s b → Same (levels s) ⊎ Collision h s a b
   unfolding root Same
@@ -85,7 +85,7 @@ tree-binds h s size sound a b la lb same =
     elim (top h s size sound a b la lb same) [
       | inr x ↦ inr x
       | inl high ↦ elim (down h s size sound a b la lb (levels s) high) [
-          | inr x ↦ inr x
-          | inl low ↦ inl (all-data h s size sound a b la lb low)
-        ]
+        | inr x ↦ inr x
+        | inl low ↦ inl (all-data h s size sound a b la lb low)
+      ]
     ]

@@ -21,7 +21,7 @@ power-above f (suc n) two =
     omega (arith, pow-suc f n, mul-le (n + 1) 2 (f ^ n) f (omega arith) two)
 
 one-more : (f n m : ℕ) → f ^ m < n → ((k : ℕ) → k < m → f ^ k < n) → (k : ℕ) → k < suc m → f ^ k < n
-one-more f n m here below k h = elim (cases-lt k m) [ | inl l ↦ below k l | inr l ↦ subst (λ j. f ^ j < n) (omega arith) here ]
+one-more f n m here below k h = elim (cases-lt k m) [ inl l ↦ below k l | inr l ↦ subst (λ j. f ^ j < n) (omega arith) here ]
 
 step : (f n m next : ℕ) (b : Bool) → leb n (f ^ m) ≡ b → ((k : ℕ) → k < m → f ^ k < n) → (f ^ m < n → Least f n next)
     → Least f n (elim b [ true ↦ m | false ↦ next ])

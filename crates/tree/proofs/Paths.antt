@@ -14,9 +14,10 @@ module _ (h : List ℕ → List ℕ) (s : Shape) (size : ℕ) (sound : Sound h s
   leads : (i : ℕ) → Leads h s size k i (h (node h s image i (k / fanout s ^ i))) (above h s image k i) (node h s image 0 k)
   unfolding above
   leads zero = ap (λ j. h (node h s image 0 j)) (sym (ap (λ p. k / p) (pow-zero (fanout s)) ∙ div-one k))
-  leads (suc i) =
-      (refl,
-      subst (λ d. Leads h s size k i d (above h s image k i) (node h s image 0 k)) (sym (held-above h s size sound image i k inside)) (leads i))
+  leads (suc i) = (
+    refl,
+    subst (λ d. Leads h s size k i d (above h s image k i) (node h s image 0 k)) (sym (held-above h s size sound image i k inside)) (leads i),
+  )
 
 pub paths-stand : PathsStand
 unfolding root

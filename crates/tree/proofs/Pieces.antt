@@ -36,8 +36,8 @@ same-blocks (suc n) d a b la lb same =
     let none : 0 * d ≡ 0 = omega arith in
     let first : take d a ≡ take d b = rw none at (same 0 (omega arith)) in
     let later : (k : ℕ) → k < n → blockOf d (drop d a) k ≡ blockOf d (drop d b) k = λ k h.
-        let past : suc k * d ≡ d + k * d = omega arith in
-        ap (take d) (drop-drop (k * d) d a ∙ ap (λ j. drop j a) (sym past)) ∙ same (suc k) (omega arith)
-        ∙ ap (take d) (ap (λ j. drop j b) past ∙ sym (drop-drop (k * d) d b)) in
+    let past : suc k * d ≡ d + k * d = omega arith in
+    ap (take d) (drop-drop (k * d) d a ∙ ap (λ j. drop j a) (sym past)) ∙ same (suc k) (omega arith)
+    ∙ ap (take d) (ap (λ j. drop j b) past ∙ sym (drop-drop (k * d) d b)) in
     let rest = same-blocks n d (drop d a) (drop d b) (omega (arith, length-drop d a)) (omega (arith, length-drop d b)) later in
     sym (take-append-drop d a) ∙ ap₂ (λ x y. x ++ y) first rest ∙ take-append-drop d b

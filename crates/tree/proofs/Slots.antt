@@ -82,9 +82,11 @@ module _ (h : List ℕ → List ℕ) (s : Shape) (size : ℕ) (sound : Sound h s
       ∙ held-of i (k / fanout s ^ i) (above-data s wide i k inside)
 
 pub slots-stand : SlotsStand
-slots-stand h s size sound image i j =
-    (length-node h s size sound image i j ∙ sym (sound .filled), λ t inside. record {
-      full = slot-full h s size sound image i j t inside;
-      digest = held-is h s size sound image i j t inside;
-      empty = slot-empty h s size sound image i j t inside;
-    })
+slots-stand h s size sound image i j = (
+  length-node h s size sound image i j ∙ sym (sound .filled),
+  λ t inside. record {
+    full = slot-full h s size sound image i j t inside;
+    digest = held-is h s size sound image i j t inside;
+    empty = slot-empty h s size sound image i j t inside;
+  },
+)

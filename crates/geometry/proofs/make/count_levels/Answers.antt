@@ -11,10 +11,11 @@ loop-reach-holds c = (sym (pow-zero (c .args .fanout)), omega arith, λ m h. abs
 
 pub loop-reach-again : need.loop-reach-again
 loop-reach-again c =
-    let inv = c .loop-reach .inv in
-    (next-reach (c .args .fanout) (c .loop-reach .levels) (c .loop-reach .reach) (inv .0),
+    let inv = c .loop-reach .inv in (
+      next-reach (c .args .fanout) (c .loop-reach .levels) (c .loop-reach .reach) (inv .0),
       omega (arith, grows (c .loop-reach .reach) (c .args .fanout) (c .pre .wide)),
-      below-more _ _ (inv .2) (subst (λ r. r < c .args .blocks) (inv .0) (c .loop-reach-test .taken)))
+      below-more _ _ (inv .2) (subst (λ r. r < c .args .blocks) (inv .0) (c .loop-reach-test .taken)),
+    )
 
 pub loop-reach-less : need.loop-reach-less
 loop-reach-less c = omega (arith, grows (c .loop-reach .reach) (c .args .fanout) (c .pre .wide))

@@ -12,10 +12,13 @@ pub loop-i-again : need.loop-i-again
 loop-i-again c =
     let i = c .loop-i .i in
     let inv = c .loop-i .inv in
-    let next : i ≡ suc (i - 1) = omega arith in
-    (length-set (c .loop-i .starts) (i - 1) (c .loop-i .total) ∙ inv .0, omega (arith, c .width-total .ensures .bound), λ s fan count height.
-      next-counted s (c .args .levels) height i (i - 1) (c .loop-i .total) (c .width-total .result) (c .loop-i .starts) next (c .loop-i .kept .i) (inv .0) (c .pre .low)
-      (c .width-total .ensures .value s fan count) (inv .2 s fan count height))
+    let next : i ≡ suc (i - 1) = omega arith in (
+      length-set (c .loop-i .starts) (i - 1) (c .loop-i .total) ∙ inv .0,
+      omega (arith, c .width-total .ensures .bound),
+      λ s fan count height.
+          next-counted s (c .args .levels) height i (i - 1) (c .loop-i .total) (c .width-total .result) (c .loop-i .starts) next (c .loop-i .kept .i) (inv .0) (c .pre .low)
+          (c .width-total .ensures .value s fan count) (inv .2 s fan count height),
+    )
 
 pub returns : need.returns
 returns c s fan count height =

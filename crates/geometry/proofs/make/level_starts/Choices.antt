@@ -8,4 +8,4 @@ abbrev pub Inv-loop-i : given.InvT-loop-i
 Inv-loop-i l =
     (length (l .starts) ≡ 7) × (l .total ≤ (l .levels - l .i) * 1048576)
     × ((s : Shape) → fanout s ≡ l .fanout → s .blocks ≡ l .blocks → levels s ≡ l .levels
-      → (l .total ≡ blocksFrom s (l .i) (l .levels - l .i)) × ((j : ℕ) → l .i ≤ j → j < 7 → getD (l .starts) j 0 ≡ start s j))
+    → (l .total ≡ blocksFrom s (l .i) (l .levels - l .i)) × ((j : ℕ) → l .i ≤ j → j < 7 → getD (l .starts) j 0 ≡ start s j))
