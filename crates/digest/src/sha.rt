@@ -57,15 +57,15 @@ pub impl Digest for Sha256 as Sha256Digest {
     ghost meaning = { sha256 };
 
     fn output_len(&self) -> usize {
-        32
+        Self::LEN
     }
 
     fn label_number(&self) -> u32 {
-        1
+        Self::NUMBER
     }
 
     fn digest(&self, first: &[u8], second: &[u8], out: &mut [u8]) -> Result<(), Refusal> {
-        answer::<u32>(32, first, second, out)
+        answer::<u32>(Self::LEN, first, second, out)
     }
 }
 
@@ -84,14 +84,14 @@ pub impl Digest for Sha512 as Sha512Digest {
     ghost meaning = { sha512 };
 
     fn output_len(&self) -> usize {
-        64
+        Self::LEN
     }
 
     fn label_number(&self) -> u32 {
-        2
+        Self::NUMBER
     }
 
     fn digest(&self, first: &[u8], second: &[u8], out: &mut [u8]) -> Result<(), Refusal> {
-        answer::<u64>(64, first, second, out)
+        answer::<u64>(Self::LEN, first, second, out)
     }
 }
