@@ -1,0 +1,5 @@
+pub mod Joins
+pub mod Flat
+pub mod Sounds
+pub mod Stages
+pub mod Accepted
