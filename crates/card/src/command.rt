@@ -1,8 +1,9 @@
 // What the words of the command line ask for.
 use crate::fault::Fault;
 use crate::fault::FaultFromAlloc;
-use crate::fault::FaultFromMisuse;
 use crate::function::Function;
+use crate::options::BuildOptions;
+use crate::options::parse_build;
 use std::alloc::Global;
 use std::env::Args;
 use std::fmt;
@@ -13,6 +14,7 @@ pub enum Command {
         function: Function,
         files: Vec<String>,
     },
+    Build(BuildOptions),
 }
 
 #[derive(Drop)]
@@ -22,6 +24,11 @@ pub enum Misuse {
     NoDigest,
     UnknownDigest(String),
     NoFile,
+    UnknownOption(String),
+    NoValue(String),
+    BadNumber(String),
+    BadSalt(String),
+    TwoFiles,
 }
 
 impl Command {
@@ -32,6 +39,7 @@ impl Command {
         };
         match name.as_str() {
             "sum" => parse_sum(heap, words),
+            "build" => Ok(Command::Build(parse_build(heap, words)?)),
             _ => Err(Fault::Misuse(Misuse::UnknownCommand(name))),
         }
     }
@@ -59,6 +67,11 @@ pub impl fmt::Display for Misuse as MisuseDisplay {
             Misuse::NoDigest => write!(f, "no digest is named"),
             Misuse::UnknownDigest(name) => write!(f, "unknown digest: {name}"),
             Misuse::NoFile => write!(f, "no file is named"),
+            Misuse::UnknownOption(name) => write!(f, "unknown option: {name}"),
+            Misuse::NoValue(name) => write!(f, "no value after {name}"),
+            Misuse::BadNumber(text) => write!(f, "not a number: {text}"),
+            Misuse::BadSalt(text) => write!(f, "not a salt in hexadecimal: {text}"),
+            Misuse::TwoFiles => write!(f, "build takes an image and a tree"),
         }
     }
 }

@@ -1,11 +1,15 @@
 // Why the program ends with status 1.
+use crate::build::NoTree;
+use crate::build::NoTreeDisplay;
 use crate::command::Misuse;
 use crate::command::MisuseDisplay;
 use std::alloc::AllocError;
+use std::alloc::Refused;
 use std::fmt;
 use std::io;
 
-pub const USAGE: &str = "usage: card sum sha256|sha512 FILE...";
+pub const USAGE: &str =
+    "usage: card sum sha256|sha512 FILE...\n       card build [--hash sha256|sha512] [--data-block-size D] [--hash-block-size E] [--salt HEX|-] IMAGE TREE";
 
 #[derive(Drop)]
 pub enum Fault {
@@ -13,6 +17,8 @@ pub enum Fault {
     Misuse(Misuse),
     // Some file has no sum.
     Files,
+    // The image has no tree.
+    Tree(NoTree),
     // The arguments could not be read, or a line not written.
     Io(io::Error),
 }
@@ -35,11 +41,18 @@ pub impl From<AllocError> for Fault as FaultFromAlloc {
     }
 }
 
+pub impl<T: Drop> From<Refused<T>> for Fault as FaultFromRefused {
+    fn from(refused: Refused<T>) -> Fault {
+        Fault::from(AllocError::from(refused))
+    }
+}
+
 pub impl fmt::Display for Fault as FaultDisplay {
     fn fmt<W: fmt::Write>(&self, f: &mut fmt::Formatter<W>) -> fmt::Result {
         match self {
             Fault::Misuse(misuse) => write!(f, "{misuse}\n{USAGE}"),
             Fault::Files => write!(f, "some files have no sum"),
+            Fault::Tree(why) => write!(f, "{why}"),
             Fault::Io(error) => write!(f, "{error}"),
         }
     }

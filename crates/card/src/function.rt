@@ -14,6 +14,7 @@ use digest::Sha512;
 use digest::Sha512Digest;
 use std::alloc::AllocError;
 use std::alloc::Global;
+use std::fmt;
 
 #[derive(Clone, Copy)]
 pub enum Function {
@@ -25,6 +26,15 @@ pub enum Function {
 pub enum Unhashed {
     Refused(Refusal),
     Memory(AllocError),
+}
+
+pub impl fmt::Display for Function as FunctionDisplay {
+    fn fmt<W: fmt::Write>(&self, f: &mut fmt::Formatter<W>) -> fmt::Result {
+        match self {
+            Function::Sha256 => write!(f, "sha256"),
+            Function::Sha512 => write!(f, "sha512"),
+        }
+    }
 }
 
 impl Function {

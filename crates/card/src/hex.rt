@@ -39,3 +39,30 @@ pub fn hex(heap: Global, bytes: &[u8]) -> Result<String, AllocError>
     }
     Ok(text)
 }
+
+fn digit_value(c: u8) -> Option<u8> {
+    match c {
+        b'0'..=b'9' => Some(c - b'0'),
+        b'a'..=b'f' => Some(c - b'a' + 10),
+        b'A'..=b'F' => Some(c - b'A' + 10),
+        _ => None,
+    }
+}
+
+// The bytes that pairs of digits stand for, or none where they are no such pairs.
+pub fn unhex(heap: Global, text: &[u8]) -> Result<Option<Vec<u8>>, AllocError> {
+    if text.len() % 2 != 0 {
+        return Ok(None);
+    }
+    let mut bytes = Vec::new(heap);
+    for pair in text.chunks(2) {
+        let [a, b] = pair else {
+            return Ok(None);
+        };
+        let (Some(high), Some(low)) = (digit_value(*a), digit_value(*b)) else {
+            return Ok(None);
+        };
+        bytes.push((high & 15) * 16 + (low & 15))?;
+    }
+    Ok(Some(bytes))
+}

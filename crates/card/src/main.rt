@@ -1,9 +1,11 @@
-// The command line program. Its one command so far prints the digests of files.
+// The command line program.
+mod build;
 mod command;
 mod fault;
 mod file;
 mod function;
 mod hex;
+mod options;
 mod sum;
 
 use command::Command;
@@ -17,6 +19,7 @@ fn run(rt: &LibcRuntime) -> Result<(), Fault> {
     let _program = words.next();
     match Command::parse(rt.alloc(), words)? {
         Command::Sum { function, files } => sum::print_sums(rt, function, files.as_slice()),
+        Command::Build(options) => build::build_tree(rt, options),
     }
 }
 
