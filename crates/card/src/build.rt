@@ -99,13 +99,22 @@ fn make<D: Digest>(
 fn write_tree(rt: &LibcRuntime, name: &str, tree: &[u8]) -> Result<(), Fault> {
     let part = format!(rt.alloc(), "{name}.part")?;
     match fs::write(rt, part.as_str(), tree) {
-        Ok(()) => fs::rename(rt, part.as_str(), name)?,
+        Ok(()) => {
+            fs::rename(rt, part.as_str(), name)?;
+            Ok(())
+        }
         Err(error) => {
             let _ = fs::remove_file(rt, part.as_str());
-            return Err(Fault::Io(error));
+            Err(Fault::File(part, error))
         }
     }
-    Ok(())
+}
+
+fn read_image(rt: &LibcRuntime, name: &str) -> Result<Vec<u8>, Fault> {
+    match fs::read(rt, name) {
+        Ok(image) => Ok(image),
+        Err(error) => Err(Fault::File(String::from_str(rt.alloc(), name)?, error)),
+    }
 }
 
 fn print_label(rt: &LibcRuntime, options: &BuildOptions, built: &Built) -> Result<(), Fault> {
@@ -136,7 +145,7 @@ pub fn build_tree(rt: &LibcRuntime, options: BuildOptions) -> Result<(), Fault> 
     let [image_name, tree_name] = options.files.as_slice() else {
         return Err(Fault::Misuse(Misuse::TwoFiles));
     };
-    let image = fs::read(rt, image_name.as_str())?;
+    let image = read_image(rt, image_name.as_str())?;
     let made = match function {
         Function::Sha256 => make(rt, &Sha256, &options, image.as_slice())?,
         Function::Sha512 => make(rt, &Sha512, &options, image.as_slice())?,

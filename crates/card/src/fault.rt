@@ -19,6 +19,8 @@ pub enum Fault {
     Files,
     // The image has no tree.
     Tree(NoTree),
+    // A file could not be read or written.
+    File(String, io::Error),
     // The arguments could not be read, or a line not written.
     Io(io::Error),
 }
@@ -53,6 +55,7 @@ pub impl fmt::Display for Fault as FaultDisplay {
             Fault::Misuse(misuse) => write!(f, "{misuse}\n{USAGE}"),
             Fault::Files => write!(f, "some files have no sum"),
             Fault::Tree(why) => write!(f, "{why}"),
+            Fault::File(name, error) => write!(f, "{name}: {error}"),
             Fault::Io(error) => write!(f, "{error}"),
         }
     }
