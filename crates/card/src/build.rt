@@ -3,6 +3,7 @@ use crate::command::Misuse;
 use crate::fault::Fault;
 use crate::fault::FaultFromAlloc;
 use crate::fault::FaultFromIo;
+use crate::fault::FaultFromNoTree;
 use crate::function::Function;
 use crate::function::FunctionDisplay;
 use crate::hex::hex;
@@ -16,6 +17,7 @@ use digest::Sha256Digest;
 use digest::Sha512;
 use digest::Sha512Digest;
 use geometry::Geometry;
+use geometry::SALT_LIMIT;
 use std::fmt;
 use std::fs;
 
@@ -52,6 +54,23 @@ struct Built {
     root: Vec<u8>,
 }
 
+// The geometry of the image's tree, with digests of `size` bytes.
+fn geometry_of(options: &BuildOptions, len: usize, size: usize) -> Result<Geometry, NoTree> {
+    let data_block = options.data_block;
+    if data_block == 0 || options.salt.len() > SALT_LIMIT {
+        return Err(NoTree::Limits);
+    }
+    let Some(geometry) = Geometry::new(data_block, options.hash_block, len / data_block, size)
+    else {
+        return Err(NoTree::Limits);
+    };
+    let over = len % data_block;
+    if over != 0 {
+        return Err(NoTree::Padding(data_block - over));
+    }
+    Ok(geometry)
+}
+
 fn make<D: Digest>(
     rt: &LibcRuntime,
     digest: &D,
@@ -59,30 +78,18 @@ fn make<D: Digest>(
     image: &[u8],
 ) -> Result<Built, Fault> {
     let heap = rt.alloc();
-    let (data_block, hash_block) = (options.data_block, options.hash_block);
-    if data_block == 0 || options.salt.len() > 256 {
-        return Err(Fault::Tree(NoTree::Limits));
-    }
-    let Some(geometry) = Geometry::new(
-        data_block,
-        hash_block,
-        image.len() / data_block,
-        digest.output_len(),
-    ) else {
-        return Err(Fault::Tree(NoTree::Limits));
-    };
-    let over = image.len() % data_block;
-    if over != 0 {
-        return Err(Fault::Tree(NoTree::Padding(data_block - over)));
-    }
+    let size = digest.output_len();
+    let geometry = geometry_of(options, image.len(), size)?;
     let mut tree = vec![in heap; 0u8; geometry.tree_len()]?;
-    let mut root = vec![in heap; 0u8; digest.output_len()]?;
+    let mut root = vec![in heap; 0u8; size]?;
+    let (data_block, hash_block) = (options.data_block, options.hash_block);
+    let salt = options.salt.as_slice();
     match build(
         digest,
         image,
         data_block,
         hash_block,
-        options.salt.as_slice(),
+        salt,
         tree.as_mut_slice(),
         root.as_mut_slice(),
     ) {

@@ -31,6 +31,12 @@ pub impl From<Misuse> for Fault as FaultFromMisuse {
     }
 }
 
+pub impl From<NoTree> for Fault as FaultFromNoTree {
+    fn from(why: NoTree) -> Fault {
+        Fault::Tree(why)
+    }
+}
+
 pub impl From<io::Error> for Fault as FaultFromIo {
     fn from(error: io::Error) -> Fault {
         Fault::Io(error)
