@@ -11,8 +11,8 @@ use geometry::Geometry;
 // The digest of the salt followed by a block.
 fn salted<D: Digest>(digest: &D, salt: &[u8], block: &[u8], out: &mut [u8])
     requires short { length salt.now + length block.now ≤ 4352 }
-    requires room { length out.old ≡ size }
-    ensures { out.new ≡ meaning (salt.now ++ block.now) }
+    requires room { length out.old ≡ D.size }
+    ensures { out.new ≡ D.meaning (salt.now ++ block.now) }
 {
     let _ = digest.digest(salt, block, out);
 }
@@ -28,10 +28,10 @@ pub(crate) fn digest_node<D: Digest>(
     j: usize,
     out: &mut [u8],
 )
-    requires ready { Ready size (shape_of g.now) image.now salt.now }
+    requires ready { Ready D.size (shape_of g.now) image.now salt.now }
     requires inside { Inside (shape_of g.now) image.now tree.now i j }
-    requires room { length out.old ≡ size }
-    ensures { out.new ≡ salted_by meaning salt.now (below (shape_of g.now) image.now tree.now i j) }
+    requires room { length out.old ≡ D.size }
+    ensures { out.new ≡ salted_by D.meaning salt.now (below (shape_of g.now) image.now tree.now i j) }
 {
     if i == 0 {
         let n = g.data_block();
@@ -62,12 +62,12 @@ fn fill_slot<D: Digest>(
     j: usize,
     scratch: &mut [u8],
 )
-    requires ready { Ready size (shape_of g.now) image.now salt.now }
+    requires ready { Ready D.size (shape_of g.now) image.now salt.now }
     requires low { i < levels_of (shape_of g.now) }
     requires there { j < width_of (shape_of g.now) i }
-    requires before { tree.old ≡ partly (salted_by meaning salt.now) (shape_of g.now) image.now i j }
-    requires room { length scratch.old ≡ size }
-    ensures { tree.new ≡ partly (salted_by meaning salt.now) (shape_of g.now) image.now i (j + 1) }
+    requires before { tree.old ≡ partly (salted_by D.meaning salt.now) (shape_of g.now) image.now i j }
+    requires room { length scratch.old ≡ D.size }
+    ensures { tree.new ≡ partly (salted_by D.meaning salt.now) (shape_of g.now) image.now i (j + 1) }
 {
     digest_node(digest, g, image, salt, tree, i, j, scratch);
     put(tree, g.start(i) * g.hash_block() + j * g.slot(), scratch);
@@ -83,11 +83,11 @@ fn fill_level<D: Digest>(
     i: usize,
     scratch: &mut [u8],
 )
-    requires ready { Ready size (shape_of g.now) image.now salt.now }
+    requires ready { Ready D.size (shape_of g.now) image.now salt.now }
     requires low { i < levels_of (shape_of g.now) }
-    requires before { tree.old ≡ stage (salted_by meaning salt.now) (shape_of g.now) image.now i }
-    requires room { length scratch.old ≡ size }
-    ensures { tree.new ≡ stage (salted_by meaning salt.now) (shape_of g.now) image.now (i + 1) }
+    requires before { tree.old ≡ stage (salted_by D.meaning salt.now) (shape_of g.now) image.now i }
+    requires room { length scratch.old ≡ D.size }
+    ensures { tree.new ≡ stage (salted_by D.meaning salt.now) (shape_of g.now) image.now (i + 1) }
 {
     for j in 0..g.width(i) {
         fill_slot(digest, g, image, salt, tree, i, j, scratch);
@@ -103,10 +103,10 @@ pub(crate) fn fill_tree<D: Digest>(
     tree: &mut [u8],
     scratch: &mut [u8],
 )
-    requires ready { Ready size (shape_of g.now) image.now salt.now }
+    requires ready { Ready D.size (shape_of g.now) image.now salt.now }
     requires whole { length tree.old ≡ tree_blocks_of (shape_of g.now) * (shape_of g.now).hash_block }
-    requires room { length scratch.old ≡ size }
-    ensures { tree.new ≡ tree_of (salted_by meaning salt.now) (shape_of g.now) image.now }
+    requires room { length scratch.old ≡ D.size }
+    ensures { tree.new ≡ tree_of (salted_by D.meaning salt.now) (shape_of g.now) image.now }
 {
     tree.fill(0);
     for i in 0..g.levels() {

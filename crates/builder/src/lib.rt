@@ -1,4 +1,6 @@
 // Writing the tree and the root of an image.
+#![tactic(auto)]
+
 mod check;
 mod fault;
 mod fill;

@@ -64,7 +64,7 @@ impl From<AllocError> for Unhashed {
 
 // The digest of the bytes.
 fn digest_of<D: Digest>(heap: Global, digest: &D, bytes: &[u8]) -> Result<Vec<u8>, Unhashed>
-    ensures { IfOk result (λ v. v.items ≡ meaning bytes.now) }
+    ensures { IfOk result (λ v. v.items ≡ D.meaning bytes.now) }
 {
     let mut out = vec![in heap; 0u8; digest.output_len()]?;
     digest.digest(b"", bytes, out.as_mut_slice())?;

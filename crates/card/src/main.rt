@@ -1,4 +1,6 @@
 // The command line program.
+#![tactic(auto)]
+
 mod build;
 mod command;
 mod fault;
@@ -10,7 +12,8 @@ mod sum;
 
 use command::Command;
 use fault::Fault;
-use std::env;
+use std::process::ExitCode;
+use std::{env, io};
 
 fn run(rt: &HostRuntime) -> Result<(), Fault> {
     let mut words = env::args(rt)?;
@@ -21,12 +24,12 @@ fn run(rt: &HostRuntime) -> Result<(), Fault> {
     }
 }
 
-fn main(rt: HostRuntime) -> Result<(), Fault> {
-    let result = run(&rt);
-    match &result {
+fn main(rt: HostRuntime) -> io::Result<ExitCode> {
+    match run(&rt) {
+        Ok(()) => return Ok(ExitCode::SUCCESS),
         // each of these files has its line already
-        Ok(()) | Err(Fault::Files) => {}
+        Err(Fault::Files) => {}
         Err(fault) => eprintln!(rt; "card: {fault}")?,
     }
-    result
+    Ok(ExitCode::FAILURE)
 }

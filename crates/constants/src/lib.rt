@@ -1,4 +1,6 @@
 // SHA-512's round constants and starting words, and the rule that they come from.
+#![tactic(auto)]
+
 ghost use Rattle.std.specs.Prelude.{◌≡◌};
 ghost use Rattle.constants.specs.Rule.{RootTable, round_constants, starting_words};
 

@@ -25,9 +25,9 @@ pub(crate) fn answer<W: Word>(
     second: &[u8],
     out: &mut [u8],
 ) -> Result<(), Refusal>
-    requires { size ≤ variant.bits }
+    requires { size ≤ W.variant.bits }
     ensures answer { result ≡ answer_of size first.now second.now out.old }
-    ensures bytes { out.new ≡ written size (hash_of variant starting_words size) first.now second.now out.old }
+    ensures bytes { out.new ≡ written size (hash_of W.variant starting_words size) first.now second.now out.old }
 {
     if !fits(size, first, second, out) {
         out.fill(0);

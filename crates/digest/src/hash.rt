@@ -21,8 +21,8 @@ fn put(buf: &mut [u8; 4480], at: usize, bytes: &[u8])
 // Writes the padded message into a buffer of zeros, and answers its length.
 fn pad<W: Word>(first: &[u8], second: &[u8], buf: &mut [u8; 4480]) -> usize
     requires { (length first.now + length second.now ≤ 4352) × (buf.old ≡ replicate 4480 0) }
-    ensures len { result ≡ length (padded variant (first.now ++ second.now)) }
-    ensures bytes { Filled (padded variant (first.now ++ second.now)) buf.new }
+    ensures len { result ≡ length (padded W.variant (first.now ++ second.now)) }
+    ensures bytes { Filled (padded W.variant (first.now ++ second.now)) buf.new }
 {
     let n = first.len() + second.len();
     let word = W::size();
@@ -37,8 +37,8 @@ fn pad<W: Word>(first: &[u8], second: &[u8], buf: &mut [u8; 4480]) -> usize
 
 // Word `i` of the bytes.
 fn word<W: Word>(bytes: &[u8; 4480], i: usize) -> W
-    requires { (i + 1) * (variant.bits / 8) ≤ 4480 }
-    ensures { value result ≡ word_at variant bytes.now i }
+    requires { (i + 1) * (W.variant.bits / 8) ≤ 4480 }
+    ensures { W.value result ≡ word_at W.variant bytes.now i }
 {
     let n = W::size();
     W::read(&bytes[i * n..i * n + n])
@@ -46,8 +46,8 @@ fn word<W: Word>(bytes: &[u8; 4480], i: usize) -> W
 
 // The sixteen words of block `i`.
 fn block<W: Word>(bytes: &[u8; 4480], i: usize) -> Words<W>
-    requires { 16 * (i + 1) * (variant.bits / 8) ≤ 4480 }
-    ensures { sixteen value result ≡ block_at variant bytes.now i }
+    requires { 16 * (i + 1) * (W.variant.bits / 8) ≤ 4480 }
+    ensures { sixteen W.value result ≡ block_at W.variant bytes.now i }
 {
     let at = 16 * i;
     Words {
@@ -73,7 +73,7 @@ fn block<W: Word>(bytes: &[u8; 4480], i: usize) -> Words<W>
 // The state after the two strings, joined, from a starting state.
 fn digested<W: Word>(start: State<W>, first: &[u8], second: &[u8]) -> State<W>
     requires { length first.now + length second.now ≤ 4352 }
-    ensures { eight value result ≡ last_state variant (eight value start) (first.now ++ second.now) }
+    ensures { eight W.value result ≡ last_state W.variant (eight W.value start) (first.now ++ second.now) }
 {
     let mut buf = [0u8; 4480];
     let end = pad::<W>(first, second, &mut buf);
@@ -85,7 +85,7 @@ fn digested<W: Word>(start: State<W>, first: &[u8], second: &[u8]) -> State<W>
 }
 
 fn starting_state<W: Word>() -> State<W>
-    ensures { eight value result ≡ start_of variant starting_words }
+    ensures { eight W.value result ≡ start_of W.variant starting_words }
 {
     let s = starting_words();
     State {
@@ -102,15 +102,15 @@ fn starting_state<W: Word>() -> State<W>
 
 // Writes a word over the bytes at a place.
 fn put_word<W: Word>(out: &mut [u8; 64], at: usize, w: W)
-    requires { at + variant.bits / 8 ≤ 64 }
-    ensures { take (at + variant.bits / 8) out.new ≡ take at out.old ++ big_endian (variant.bits / 8) (value w) }
+    requires { at + W.variant.bits / 8 ≤ 64 }
+    ensures { take (at + W.variant.bits / 8) out.new ≡ take at out.old ++ big_endian (W.variant.bits / 8) (W.value w) }
 {
     w.write(&mut out[at..at + W::size()]);
 }
 
 // The bytes of a state; those past them are zeros.
 fn state_bytes<W: Word>(s: State<W>) -> [u8; 64]
-    ensures { take variant.bits result ≡ state_bytes variant (eight value s) }
+    ensures { take W.variant.bits result ≡ state_bytes W.variant (eight W.value s) }
 {
     let mut out = [0u8; 64];
     let n = W::size();
@@ -127,8 +127,8 @@ fn state_bytes<W: Word>(s: State<W>) -> [u8; 64]
 
 // Writes the first bytes of the digest of the two strings, joined, as many as `out` has.
 pub(crate) fn hash<W: Word>(first: &[u8], second: &[u8], out: &mut [u8])
-    requires { (length first.now + length second.now ≤ 4352) × (length out.old ≤ variant.bits) }
-    ensures { out.new ≡ hash_of variant starting_words (length out.old) (first.now ++ second.now) }
+    requires { (length first.now + length second.now ≤ 4352) × (length out.old ≤ W.variant.bits) }
+    ensures { out.new ≡ hash_of W.variant starting_words (length out.old) (first.now ++ second.now) }
 {
     let bytes = state_bytes(digested(starting_state::<W>(), first, second));
     let n = out.len();

@@ -1,4 +1,6 @@
 // The digests: the interface, SHA-256 and SHA-512.
+#![tactic(auto)]
+
 mod answer;
 mod hash;
 mod laws;

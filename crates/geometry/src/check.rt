@@ -13,7 +13,7 @@ pub const SALT_LIMIT: usize = 256;
 impl Label<'_> {
     // The geometry that the label tells.
     pub fn check<D: Digest>(&self, digest: &D) -> Result<Geometry, LabelFault>
-        ensures { Checked id size self.now result }
+        ensures { Checked D.id D.size self.now result }
     {
         let size = digest.output_len();
         if self.digest != digest.label_number() {

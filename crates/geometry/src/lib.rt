@@ -1,4 +1,6 @@
 // The numbers of a tree, which agree with one another, and the label that tells them.
+#![tactic(auto)]
+
 mod check;
 mod geometry;
 mod label;

@@ -50,13 +50,13 @@ struct Work<W> {
 
 fn constant<W: Word>(t: usize) -> W
     requires { t < 80 }
-    ensures { value result ≡ slice_index variant.constants t }
+    ensures { W.value result ≡ slice_index W.variant.constants t }
 {
     W::upper(round_constants()[t])
 }
 
 fn round<W: Word>(s: State<W>, k: W, w: W) -> State<W>
-    ensures { eight value result ≡ one_round variant (value k) (value w) (eight value s) }
+    ensures { eight W.value result ≡ one_round W.variant (W.value k) (W.value w) (eight W.value s) }
 {
     let t1 = s
         .h
@@ -79,7 +79,7 @@ fn round<W: Word>(s: State<W>, k: W, w: W) -> State<W>
 
 // The window one word on.
 fn shift<W: Word>(w: Words<W>) -> Words<W>
-    ensures { sixteen value result ≡ shifted variant (sixteen value w) }
+    ensures { sixteen W.value result ≡ shifted W.variant (sixteen W.value w) }
 {
     Words {
         w0: w.w1,
@@ -109,7 +109,7 @@ fn shift<W: Word>(w: Words<W>) -> Words<W>
 // Round `t` + `I`. The const parameters make each of a turn's steps a function of its own, so that each is inlined.
 fn step<W: Word, const I: usize, const LAST: bool>(work: Work<W>, t: usize) -> Work<W>
     requires { t + I < 80 }
-    ensures { LeadsTo variant (t + I) 1 (sixteen value work.window) (eight value work.state) (sixteen value result.window) (eight value result.state) }
+    ensures { LeadsTo W.variant (t + I) 1 (sixteen W.value work.window) (eight W.value work.state) (sixteen W.value result.window) (eight W.value result.state) }
 {
     let Work { state, window } = work;
     Work {
@@ -121,7 +121,7 @@ fn step<W: Word, const I: usize, const LAST: bool>(work: Work<W>, t: usize) -> W
 // Sixteen rounds from round `t` on. Of the last turn no window is used, and the compiler leaves it out.
 fn turn<W: Word, const LAST: bool>(work: Work<W>, t: usize) -> Work<W>
     requires { t + 16 ≤ 80 }
-    ensures { LeadsTo variant t 16 (sixteen value work.window) (eight value work.state) (sixteen value result.window) (eight value result.state) }
+    ensures { LeadsTo W.variant t 16 (sixteen W.value work.window) (eight W.value work.state) (sixteen W.value result.window) (eight W.value result.state) }
 {
     let work = step::<W, 0, LAST>(work, t);
     let work = step::<W, 1, LAST>(work, t);
@@ -144,7 +144,7 @@ fn turn<W: Word, const LAST: bool>(work: Work<W>, t: usize) -> Work<W>
 
 // Two states, added word by word.
 fn sum<W: Word>(s: State<W>, t: State<W>) -> State<W>
-    ensures { eight value result ≡ added variant (eight value s) (eight value t) }
+    ensures { eight W.value result ≡ added W.variant (eight W.value s) (eight W.value t) }
 {
     State {
         a: s.a.plus(t.a),
@@ -160,7 +160,7 @@ fn sum<W: Word>(s: State<W>, t: State<W>) -> State<W>
 
 // The state after a block of sixteen words.
 pub fn compress<W: Word>(state: State<W>, block: Words<W>) -> State<W>
-    ensures { eight value result ≡ block_step variant (eight value state) (sixteen value block) }
+    ensures { eight W.value result ≡ block_step W.variant (eight W.value state) (sixteen W.value block) }
 {
     let turns = W::rounds() / 16 - 1;
     let mut work = Work {

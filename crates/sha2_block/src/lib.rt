@@ -1,4 +1,6 @@
 // SHA-2's words and block step, one text for words of 32 and of 64 bits.
+#![tactic(auto)]
+
 mod block;
 mod word;
 mod word32;

@@ -1,4 +1,6 @@
 // Builds the trees of some cards again, and compares each tree and root with what veritysetup made.
+#![tactic(auto)]
+
 mod card;
 
 use anyhow::anyhow;

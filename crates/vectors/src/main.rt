@@ -1,5 +1,7 @@
 // Runs both digests on the example messages of FIPS 180-4 and at the lengths where padding changes.
 // Each digest is compared with the value in expected.txt, which another implementation computed.
+#![tactic(auto)]
+
 mod expected;
 mod function;
 mod message;

@@ -6,8 +6,8 @@ use Rattle.builder.proofs.Sounds.{sound_salted}
 use Rattle.builder.proofs.Stages.{partly_inside, partly_below, partly_place, partly_more}
 use Rattle.builder.proofs.fill.fill_slot.Goals as goal
 
-pub digest-node-requires : goal.digest-node-requires
-digest-node-requires g c =
+pub digest_node-requires : goal.digest_node-requires
+digest_node-requires g c =
     let s = shape_of c.args.g.now in
     let h = salted g.D.Digest.meaning c.args.salt.now in
     let ready = c.requires.ready in
@@ -19,37 +19,37 @@ digest-node-requires g c =
     }
 
 -- the slot lies in the tree's buffer
-place : (g : _) (c : goal.After-slot g) → c.start.result * c.hash-block.result + c.args.j * c.slot.result + (shape_of c.args.g.now).slot ≤ length c.args.tree.now
+place : (g : _) (c : goal.After-slot g) → c.start.result * c.hash_block.result + c.args.j * c.slot.result + (shape_of c.args.g.now).slot ≤ length c.args.tree.now
 place g c =
     let s = shape_of c.args.g.now in
     let h = salted g.D.Digest.meaning c.args.salt.now in
     let sound = sound_salted g.D.Digest.meaning c.args.salt.now s g.D.Digest.size g.met.D.Digest.lengths c.args.g.now.limits c.requires.ready.slots in
-    partly_place h s g.D.Digest.size sound c.args.image.now c.args.i c.args.j c.start.result c.hash-block.result c.slot.result c.args.tree.now
-    c.requires.before c.requires.there c.start.ensures c.hash-block.ensures c.slot.ensures
+    partly_place h s g.D.Digest.size sound c.args.image.now c.args.i c.args.j c.start.result c.hash_block.result c.slot.result c.args.tree.now
+    c.requires.before c.requires.there c.start.ensures c.hash_block.ensures c.slot.ensures
 
-pub overflow-mul-start : goal.overflow-mul-start
-overflow-mul-start g c =
+pub overflow_mul-start : goal.overflow_mul-start
+overflow_mul-start g c =
     let s = shape_of c.args.g.now in
     let h = salted g.D.Digest.meaning c.args.salt.now in
     let sound = sound_salted g.D.Digest.meaning c.args.salt.now s g.D.Digest.size g.met.D.Digest.lengths c.args.g.now.limits c.requires.ready.slots in
-    let fits = partly_place h s g.D.Digest.size sound c.args.image.now c.args.i c.args.j c.start.result c.hash-block.result s.slot c.args.tree.now
-    c.requires.before c.requires.there c.start.ensures c.hash-block.ensures refl in
+    let fits = partly_place h s g.D.Digest.size sound c.args.image.now c.args.i c.args.j c.start.result c.hash_block.result s.slot c.args.tree.now
+    c.requires.before c.requires.there c.start.ensures c.hash_block.ensures refl in
     record { fits = omega (arith, fits) }
 
-pub overflow-mul-j : goal.overflow-mul-j
-overflow-mul-j g c = record { fits = omega (arith, place g c) }
+pub overflow_mul-j : goal.overflow_mul-j
+overflow_mul-j g c = record { fits = omega (arith, place g c) }
 
-pub overflow-add-start : goal.overflow-add-start
-overflow-add-start g c = record { fits = omega (arith, place g c) }
+pub overflow_add-start : goal.overflow_add-start
+overflow_add-start g c = record { fits = omega (arith, place g c) }
 
 pub put-requires : goal.put-requires
 put-requires g c =
     let s = shape_of c.args.g.now in
     let h = salted g.D.Digest.meaning c.args.salt.now in
     let sound = sound_salted g.D.Digest.meaning c.args.salt.now s g.D.Digest.size g.met.D.Digest.lengths c.args.g.now.limits c.requires.ready.slots in
-    let fits = partly_place h s g.D.Digest.size sound c.args.image.now c.args.i c.args.j c.start.result c.hash-block.result c.slot.result c.args.tree.now
-    c.requires.before c.requires.there c.start.ensures c.hash-block.ensures c.slot.ensures in
-    omega (arith, fits, c.digest-node.auto.out, c.requires.room, c.requires.ready.slots)
+    let fits = partly_place h s g.D.Digest.size sound c.args.image.now c.args.i c.args.j c.start.result c.hash_block.result c.slot.result c.args.tree.now
+    c.requires.before c.requires.there c.start.ensures c.hash_block.ensures c.slot.ensures in
+    omega (arith, fits, c.digest_node.auto.out, c.requires.room, c.requires.ready.slots)
 
 pub returns : goal.returns
 returns g c =
@@ -57,9 +57,9 @@ returns g c =
     let m = g.D.Digest.meaning in
     let h = salted m c.args.salt.now in
     let sound = sound_salted m c.args.salt.now s g.D.Digest.size g.met.D.Digest.lengths c.args.g.now.limits c.requires.ready.slots in
-    let at = c.start.result * c.hash-block.result + c.args.j * c.slot.result in
+    let at = c.start.result * c.hash_block.result + c.args.j * c.slot.result in
     let here : at ≡ start s c.args.i * s.hash_block + c.args.j * s.slot =
-    ap₂ (λ x y. x + c.args.j * y) (ap₂ (λ x y. x * y) c.start.ensures c.hash-block.ensures) c.slot.ensures in
+    ap₂ (λ x y. x + c.args.j * y) (ap₂ (λ x y. x * y) c.start.ensures c.hash_block.ensures) c.slot.ensures in
     c.put.ensures
-    ∙ partly_more h s g.D.Digest.size sound c.args.image.now c.args.i c.args.j at c.args.tree.now c.digest-node.new.out c.requires.before c.requires.there here
-    (c.digest-node.ensures ∙ ap h (partly_below h s g.D.Digest.size sound c.args.image.now c.args.i c.args.j c.args.tree.now c.requires.before c.requires.low c.requires.there))
+    ∙ partly_more h s g.D.Digest.size sound c.args.image.now c.args.i c.args.j at c.args.tree.now c.digest_node.new.out c.requires.before c.requires.there here
+    (c.digest_node.ensures ∙ ap h (partly_below h s g.D.Digest.size sound c.args.image.now c.args.i c.args.j c.args.tree.now c.requires.before c.requires.low c.requires.there))

@@ -8,5 +8,5 @@ returns c =
     let bytes = c.args.bytes.now in
     let buf = c.args.tree.now in
     let count : at + length bytes - at ≡ length bytes = omega arith in
-    ap₂ (λ xs k. take at buf ++ (xs ++ drop k (drop at buf))) c.copy-from-slice.ensures.after count
+    ap₂ (λ xs k. take at buf ++ (xs ++ drop k (drop at buf))) c.copy_from_slice.ensures.after count
     ∙ ap (λ ys. take at buf ++ (bytes ++ ys)) (drop-drop (length bytes) at buf)

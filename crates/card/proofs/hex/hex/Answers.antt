@@ -7,7 +7,7 @@ pub loop-byte-preserved : goal.loop-byte-preserved
 loop-byte-preserved c =
     let bytes = c.args.bytes.now in
     let i = c.loop-byte.byte-index in
-    c.in-ok-push-byte.ensures ∙ ap (λ t. t ++ two_digits (get_or bytes i 0)) c.loop-byte.invariant ∙ flat_map_more two_digits [] _ (get_or bytes i 0) ∙ ap hex_of (sym (take_more bytes i 0 c.loop-byte-test.true))
+    c.in_ok-push_byte.ensures ∙ ap (λ t. t ++ two_digits (get_or bytes i 0)) c.loop-byte.invariant ∙ flat_map_more two_digits [] _ (get_or bytes i 0) ∙ ap hex_of (sym (take_more bytes i 0 c.loop-byte-test.true))
 
 pub returns : goal.returns
 returns c = c.loop-byte.invariant ∙ ap hex_of (take_all _ _ c.loop-byte-test.false)

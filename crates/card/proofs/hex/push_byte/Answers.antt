@@ -5,8 +5,8 @@ use Rattle.card.proofs.hex.push_byte.Goals as goal
 
 pub returns : goal.returns
 returns c =
-    let first = c.in-ok-push.ensures.bytes in
-    let second = c.in-ok-push-2.ensures.bytes in
+    let first = c.in_ok-push.ensures.bytes in
+    let second = c.in_ok-push-2.ensures.bytes in
     let one = c.push.ensures.ascii c.digit.ensures.ascii in
     let other = c.push-2.ensures.ascii c.digit-2.ensures.ascii in
     let upper = digit_of (c.args.byte / 16) in

@@ -19,8 +19,8 @@ returns g c =
     let end = (n + 2 * w) / (16 * w) * (16 * w) + 16 * w in
     let count : n ≡ length m = sym (length-append first second) in
     let len : end ≡ length (padded v m) = whole v bits m n w count c.size-word.ensures in
-    let tail : c.to-be-bytes.result ≡ big_endian 8 (8 * length m) = eight_bytes (8 * n) _ c.to-be-bytes.ensures ∙ ap (λ k. big_endian 8 (8 * k)) count in
-    let filled = four_writes first second c.to-be-bytes.result c.args.buf.now c.put.new.buf c.put-2.new.buf c.put-3.new.buf c.put-4.new.buf
+    let tail : c.to_be_bytes.result ≡ big_endian 8 (8 * length m) = eight_bytes (8 * n) _ c.to_be_bytes.ensures ∙ ap (λ k. big_endian 8 (8 * k)) count in
+    let filled = four_writes first second c.to_be_bytes.result c.args.buf.now c.put.new.buf c.put-2.new.buf c.put-3.new.buf c.put-4.new.buf
     n (end - 8) refl c.requires.1 c.put.ensures c.put-2.ensures c.put-3.ensures c.put-4.ensures (room v bits m n end count len) in
     record {
       len = len;

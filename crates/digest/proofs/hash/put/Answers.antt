@@ -9,5 +9,5 @@ returns c front filled behind =
     let at = c.args.at in
     let bytes = c.args.bytes.now in
     let count : at + length bytes - at ≡ length bytes = omega arith in
-    subst (λ ys. Filled (front ++ replicate (at - length front) 0 ++ bytes) (put_mid at (at + length bytes - at) c.args.buf.now ys)) (sym c.copy-from-slice.ensures.after)
+    subst (λ ys. Filled (front ++ replicate (at - length front) 0 ++ bytes) (put_mid at (at + length bytes - at) c.args.buf.now ys)) (sym c.copy_from_slice.ensures.after)
     (put_behind front bytes c.args.buf.now at (at + length bytes - at) count c.requires filled behind)

@@ -6,11 +6,11 @@ use Rattle.geometry.proofs.make.width.Goals as goal
 pub pow-reach-requires : goal.pow-reach-requires
 pow-reach-requires c = omega (arith, reach_bounds c.args.fanout c.args.steps c.requires.wide c.requires.narrow c.requires.low)
 
-pub overflow-add-result : goal.overflow-add-result
-overflow-add-result c = record { fits = omega (arith, c.pow-reach.ensures, reach_bounds c.args.fanout c.args.steps c.requires.wide c.requires.narrow c.requires.low) }
+pub overflow_add-result : goal.overflow_add-result
+overflow_add-result c = record { fits = omega (arith, c.pow-reach.ensures, reach_bounds c.args.fanout c.args.steps c.requires.wide c.requires.narrow c.requires.low) }
 
-pub nonzero-div-result : goal.nonzero-div-result
-nonzero-div-result c = omega (arith, c.pow-reach.ensures, reach_bounds c.args.fanout c.args.steps c.requires.wide c.requires.narrow c.requires.low)
+pub nonzero_div-result : goal.nonzero_div-result
+nonzero_div-result c = omega (arith, c.pow-reach.ensures, reach_bounds c.args.fanout c.args.steps c.requires.wide c.requires.narrow c.requires.low)
 
 pub returns : goal.returns
 unfolding width

@@ -11,8 +11,8 @@ sum c =
     ap₂ (λ x y. x + y) c.width.ensures c.start.ensures
     ∙ blocks_some (shape_of g) (λ none. c.if-self-eq0.false (g.height ∙ none))
 
-pub overflow-add-result : goal.overflow-add-result
-overflow-add-result c =
+pub overflow_add-result : goal.overflow_add-result
+overflow_add-result c =
     let g = c.args.self.now in
     record { fits = omega (arith, sum c, tree_bound (shape_of g) (bounds (shape_of g) g.limits)) }
 

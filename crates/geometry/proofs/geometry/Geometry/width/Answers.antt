@@ -9,8 +9,8 @@ returns-then-steps-self c =
     let b = bounds (shape_of g) g.limits in
     width_one (shape_of g) c.args.steps b.some (omega (arith, b.wide)) (omega (arith, g.height))
 
-pub overflow-cast-steps : goal.overflow-cast-steps
-overflow-cast-steps c =
+pub overflow_cast-steps : goal.overflow_cast-steps
+overflow_cast-steps c =
     let g = c.args.self.now in
     record { fits = omega (arith, g.height, (bounds (shape_of g) g.limits).low) }
 
