@@ -1,5 +1,5 @@
 -- What is answered and written where the lengths fit.
-use Rattle.std.proofs.Common.{◌≡◌, ℕ, ◌+◌, true, cond, eqb, leb, List, ◌++◌, length, replicate, Ok, Err, Result, sym, ap, ◌∙◌}
+use Rattle.std.proofs.Common.{◌≡◌, ℕ, ◌+◌, true, eqb, leb, List, ◌++◌, length, replicate, Ok, Err, Result, sym, ap, ◌∙◌}
 use Rattle.std.proofs.lemmas.Bool.{and_parts, eqb-true, cond-true}
 use Rattle.digest.specs.declared.refusal.Refusal.{Refusal}
 use Rattle.digest.specs.declared.refusal.Refusal.TheVariants.{Length}

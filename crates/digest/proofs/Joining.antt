@@ -1,13 +1,13 @@
 -- Padding is whole, with the fewest zeros; and joining is all that a digest sees of a split.
-use Rattle.std.proofs.Common.{◌≡◌, ℕ, ◌+◌, ◌-◌, ◌*◌, ◌/◌, ◌%◌, ◌≤◌, cond, ◌&&◌, eqb, leb, ◌⊎◌, List, [], ◌∷◌, ◌++◌, length, replicate, Ok, Err, Result, sym, refl, ap, ◌∙◌, ap₂, inl, inr, arith}
+use Rattle.std.proofs.Common.{◌≡◌, ℕ, ◌+◌, ◌%◌, ◌≤◌, cond, ◌&&◌, eqb, leb, ◌⊎◌, length, replicate, Ok, Err, Result, sym, refl, ap, ◌∙◌, ap₂, inl, inr, arith}
 use Rattle.std.proofs.lemmas.List.{length-append}
 use Rattle.sha2_block.specs.Variant.{Variant}
 use Rattle.digest.specs.declared.refusal.Refusal.{Refusal}
 use Rattle.digest.specs.declared.refusal.Refusal.TheVariants.{Length}
 use Rattle.digest.specs.Padding.{block_bytes, length_bytes, zeros, padded}
-use Rattle.digest.specs.Answer.{accepts, answer, written}
-use Rattle.digest.specs.Laws.{Padding, PaddingStands, SplitStands}
-use Rattle.digest.proofs.Padding.{length-padded, ends}
+use Rattle.digest.specs.Answer.{accepts}
+use Rattle.digest.specs.Laws.{PaddingStands, SplitStands}
+use Rattle.digest.proofs.Padding.{length-padded}
 
 whole : (v : Variant) → ((v.bits ≡ 32) ⊎ (v.bits ≡ 64)) → (n : ℕ) → (n + 1 + zeros v n + length_bytes v) % block_bytes v ≡ 0
 unfolding zeros

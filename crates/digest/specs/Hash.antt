@@ -1,5 +1,5 @@
 -- SHA-256 and SHA-512: the block step over the padded message, and the last state's bytes.
-use Rattle.std.specs.Prelude.{ℕ, zero, suc, ◌+◌, ◌*◌, ◌/◌, List, [], ◌∷◌, ◌++◌, map, length, take, drop, slice_index}
+use Rattle.std.specs.Prelude.{ℕ, zero, suc, ◌+◌, ◌*◌, ◌/◌, List, ◌++◌, map, length, take, drop, slice_index}
 use Rattle.std.specs.List.{range_with_len}
 use Rattle.constants.specs.Rule.{starting_words}
 use Rattle.sha2_block.specs.Variant.{Variant, upper, words32, words64}

@@ -1,9 +1,8 @@
 // The interface of a digest, and the two that the standard gives.
 ghost use Rattle.std.specs.Prelude.{◌≡◌, ℕ, ◌⊎◌, List, length};
-ghost use Rattle.std.proofs.Math.Path.{refl};
 ghost use Rattle.digest.specs.Answer.{answer as answer_of, written};
 ghost use Rattle.digest.specs.Hash.{sha256, sha512, hash, state_bytes};
-ghost use Rattle.std.proofs.Common.{rules};
+ghost use Rattle.std.proofs.Common.{inl, inr, refl};
 
 use crate::answer::answer;
 use crate::refusal::Refusal;
@@ -53,7 +52,7 @@ impl Digest for Sha256 {
 
     ghost meaning = { sha256 };
 
-    ghost sizes = { Prim.search rules };
+    ghost sizes = { inl refl };
 
     ghost lengths = { unfold sha256 hash state_bytes in λ m. refl };
 
@@ -84,7 +83,7 @@ impl Digest for Sha512 {
 
     ghost meaning = { sha512 };
 
-    ghost sizes = { Prim.search rules };
+    ghost sizes = { inr refl };
 
     ghost lengths = { unfold sha512 hash state_bytes in λ m. refl };
 

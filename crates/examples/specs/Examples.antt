@@ -1,5 +1,5 @@
 -- The standard's worked examples: one block and two blocks, for both digests.
-use Rattle.std.specs.Prelude.{◌≡◌, ℕ, codes}
+use Rattle.std.specs.Prelude.{◌≡◌, codes}
 use Rattle.sha2_block.specs.Bytes.{big_endian}
 use Rattle.digest.specs.Hash.{sha256, sha512}
 

@@ -1,10 +1,10 @@
 -- What the limits say of a shape's other numbers.
-use Rattle.std.proofs.Common.{◌≡◌, ℕ, zero, suc, ◌+◌, ◌-◌, ◌*◌, ◌/◌, ◌^◌, ◌<◌, ◌≤◌, Bool, true, false, ◌&&◌, ◌||◌, eqb, leb, ◌⊎◌, List, get_or, sym, refl, ap, ◌∙◌, subst, inl, inr, le_trans, mul-le-mul_right, zero-add, arith}
+use Rattle.std.proofs.Common.{◌≡◌, ℕ, zero, suc, ◌+◌, ◌-◌, ◌*◌, ◌/◌, ◌^◌, ◌<◌, ◌≤◌, true, ◌&&◌, ◌||◌, eqb, leb, List, get_or, sym, ap, ◌∙◌, subst, inl, inr, le_trans, zero-add, arith}
 use native.Mathlib.Nat.{one-le-pow, pow-le-pow_right}
 use Rattle.std.proofs.lemmas.Nat.{div_below, le-div, mul-le}
 use Rattle.std.proofs.lemmas.List.FromFn.{get_or-map-range_with_len}
 use Rattle.std.proofs.lemmas.Bool.{and_parts, or_cases, eqb-true, leb-true}
-use Rattle.tree.specs.Shape.{Shape, fanout, levels, levels_of, width, blocks_from, start, tree_blocks}
+use Rattle.tree.specs.Shape.{Shape, fanout, levels, width, blocks_from, start, tree_blocks}
 use Rattle.tree.proofs.Levels.{levels_stand_lem}
 use Rattle.geometry.specs.Limits.{is_block_size, is_count, is_slot, within, starts}
 use Rattle.geometry.proofs.Counting.{at_most_seven, rounded_le}

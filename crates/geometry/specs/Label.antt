@@ -1,5 +1,5 @@
 -- When a label is good: its number is the digest's, its sizes are within the limits, and its root is as long as a digest.
-use Rattle.std.specs.Prelude.{◌≡◌, ℕ, Bool, true, false, ◌&&◌, List, length, Result, MatchResult, ◌==◌, nat_le}
+use Rattle.std.specs.Prelude.{◌≡◌, ℕ, Bool, true, false, ◌&&◌, length, Result, MatchResult, ◌==◌, nat_le}
 use Rattle.tree.specs.Shape.{Shape}
 use Rattle.geometry.specs.declared.geometry.Geometry.{Geometry}
 use Rattle.geometry.specs.declared.label.Label.{Label}

@@ -1,5 +1,5 @@
 -- The schedule obeys its recursion, and the window is a part of it.
-use Rattle.std.proofs.Common.{◌≡◌, ℕ, zero, suc, ◌+◌, ◌-◌, ◌<◌, ◌≤◌, List, [], ◌∷◌, ◌++◌, length, get_or, drop, sym, refl, ap, ◌∙◌, suc-add, zero-add, arith}
+use Rattle.std.proofs.Common.{◌≡◌, ℕ, zero, suc, ◌+◌, ◌-◌, ◌<◌, ◌≤◌, List, length, get_or, drop, sym, ap, ◌∙◌, suc-add, zero-add, arith}
 use Rattle.std.proofs.lemmas.List.{get_or_append_left, get_or_push, get_or-drop, drop-drop, length-drop}
 use Rattle.sha2_block.specs.Variant.{Variant}
 use Rattle.sha2_block.specs.Block.{scheduled, next_word, one_more, extended, schedule}

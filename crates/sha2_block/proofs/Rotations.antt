@@ -1,5 +1,5 @@
 -- Rotations one after the other, and of an exclusive or.
-use Rattle.std.proofs.Common.{◌≡◌, ℕ, ◌+◌, ◌-◌, ◌*◌, ◌/◌, ◌%◌, ◌^◌, ◌<◌, ◌≤◌, sym, refl, ap, ◌∙◌, subst, ap₂, arith}
+use Rattle.std.proofs.Common.{◌≡◌, ℕ, ◌+◌, ◌-◌, ◌*◌, ◌/◌, ◌%◌, ◌^◌, ◌<◌, ◌≤◌, sym, ap, ◌∙◌, subst, ap₂, arith}
 use native.Mathlib.Nat.{mul-mod_left, mul-add-mod_self_right, add-mul-div_right}
 use lib.Bits.{bit_or, bit_xor, xor_block, xor_assoc, xor_lt}
 use Rattle.std.proofs.lemmas.Nat.{pow_pos, pow-add, shl-shr, shr-shr, shr_below, mod-pow-add, mod_below, mul-add-lt, or_shifted, or_comm, xor_shr, xor_mod}

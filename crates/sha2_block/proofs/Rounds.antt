@@ -1,8 +1,8 @@
 -- Rounds, a few at a time.
-use Rattle.std.proofs.Common.{◌≡◌, ℕ, zero, suc, ◌+◌, ◌-◌, ◌*◌, ◌<◌, ◌≤◌, List, [], ◌∷◌, ◌++◌, length, get_or, drop, sym, refl, ap, ◌∙◌, subst, ap₂, add-zero, add_assoc, zero-add, one-add, arith}
+use Rattle.std.proofs.Common.{◌≡◌, ℕ, zero, suc, ◌+◌, ◌-◌, ◌*◌, ◌≤◌, List, ◌++◌, length, get_or, drop, sym, refl, ap, ◌∙◌, subst, ap₂, add-zero, add_assoc, zero-add, one-add, arith}
 use Rattle.std.proofs.lemmas.List.{get_or_append_left, get_or-drop}
 use Rattle.sha2_block.specs.Variant.{Variant}
-use Rattle.sha2_block.specs.Block.{Eight, round, rounds_from, one_more, extended, schedule}
+use Rattle.sha2_block.specs.Block.{Eight, round, rounds_from, extended, schedule}
 use Rattle.sha2_block.specs.Window.{shifted, rounds_left, LeadsTo}
 use Rattle.sha2_block.proofs.Schedule.{length-extended, grown, extended-plus, extended-shifted}
 

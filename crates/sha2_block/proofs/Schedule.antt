@@ -1,8 +1,8 @@
 -- Words that come behind a schedule depend on its last sixteen alone.
-use Rattle.std.proofs.Common.{◌≡◌, ℕ, zero, suc, ◌+◌, ◌-◌, ◌<◌, ◌≤◌, List, [], ◌∷◌, ◌++◌, length, get_or, drop, sym, refl, ap, ◌∙◌, suc-add, zero-add, arith}
+use Rattle.std.proofs.Common.{◌≡◌, ℕ, zero, suc, ◌+◌, ◌-◌, ◌≤◌, List, [], ◌∷◌, ◌++◌, length, drop, sym, refl, ap, ◌∙◌, suc-add, zero-add, arith}
 use Rattle.std.proofs.lemmas.List.{append_assoc, append-nil, length_push}
 use Rattle.sha2_block.specs.Variant.{Variant}
-use Rattle.sha2_block.specs.Block.{scheduled, next_word, one_more, extended}
+use Rattle.sha2_block.specs.Block.{next_word, one_more, extended}
 use Rattle.sha2_block.specs.Window.{shifted}
 
 module _ (v : Variant) where

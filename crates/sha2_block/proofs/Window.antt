@@ -1,5 +1,5 @@
 -- The window, one word on.
-use Rattle.std.proofs.Common.{◌≡◌, ℕ, List, [], ◌∷◌, refl, ap, ◌∙◌}
+use Rattle.std.proofs.Common.{◌≡◌, ℕ, [], ◌∷◌, ap, ◌∙◌}
 use Rattle.sha2_block.specs.Variant.{Variant}
 use Rattle.sha2_block.specs.Words.{plus, small_sigma0, small_sigma1}
 use Rattle.sha2_block.specs.Block.{scheduled, next_word, one_more}

@@ -1,6 +1,6 @@
 // Words of 32 bits.
 ghost use Rattle.sha2_block.specs.Variant.{words32};
-ghost use Rattle.std.proofs.Common.{rules};
+ghost use Rattle.std.proofs.Common.{inl, lit≤, refl};
 
 use crate::word::Word;
 
@@ -9,11 +9,11 @@ impl Word for u32 {
 
     ghost variant = { words32 };
 
-    ghost bits = { Prim.search rules };
+    ghost bits = { inl refl };
 
-    ghost turns = { Prim.search rules };
+    ghost turns = { (lit≤ tt, lit≤ tt, refl) };
 
-    ghost constants = { Prim.search rules };
+    ghost constants = { refl };
 
     fn size() -> usize {
         4

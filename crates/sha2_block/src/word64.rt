@@ -1,6 +1,6 @@
 // Words of 64 bits.
 ghost use Rattle.sha2_block.specs.Variant.{words64};
-ghost use Rattle.std.proofs.Common.{rules};
+ghost use Rattle.std.proofs.Common.{inr, lit≤, refl};
 
 use crate::word::Word;
 
@@ -9,11 +9,11 @@ impl Word for u64 {
 
     ghost variant = { words64 };
 
-    ghost bits = { Prim.search rules };
+    ghost bits = { inr refl };
 
-    ghost turns = { Prim.search rules };
+    ghost turns = { (lit≤ tt, lit≤ tt, refl) };
 
-    ghost constants = { Prim.search rules };
+    ghost constants = { refl };
 
     fn size() -> usize {
         8

@@ -1,5 +1,5 @@
 -- The numbers of a tree: how many levels, how wide each is, and where it starts.
-use Rattle.std.specs.Prelude.{ℕ, zero, suc, ◌+◌, ◌-◌, ◌*◌, ◌/◌, ◌^◌, true, false, nat_le}
+use Rattle.std.specs.Prelude.{ℕ, zero, suc, ◌+◌, ◌-◌, ◌/◌, ◌^◌, true, false, nat_le}
 
 pub record Shape : Type 0 where
   -- bytes of a data block

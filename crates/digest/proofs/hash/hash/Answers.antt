@@ -1,4 +1,4 @@
-use Rattle.std.proofs.Common.{◌≡◌, ◌++◌, length, take, ap, ◌∙◌}
+use Rattle.std.proofs.Common.{◌++◌, length, take, ap, ◌∙◌}
 use Rattle.digest.specs.Hash.{hash, state_bytes, last_state}
 use Rattle.digest.proofs.Output.{kept}
 use Rattle.digest.proofs.hash.hash.Goals as goal

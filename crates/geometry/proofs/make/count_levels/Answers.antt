@@ -1,4 +1,4 @@
-use Rattle.std.proofs.Common.{◌≡◌, ◌+◌, ◌*◌, ◌<◌, ◌≤◌, sym, subst, arith, below_more}
+use Rattle.std.proofs.Common.{◌<◌, ◌≤◌, sym, subst, arith, below_more}
 use native.Mathlib.Nat.{pow-zero}
 use Rattle.geometry.proofs.Counting.{next_reach, grows, least_is, at_most_seven}
 use Rattle.geometry.proofs.make.count_levels.Goals as goal

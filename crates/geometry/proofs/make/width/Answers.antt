@@ -1,4 +1,4 @@
-use Rattle.std.proofs.Common.{◌≡◌, ◌+◌, ◌-◌, ◌/◌, ◌^◌, sym, ap, ◌∙◌, ap₂, arith}
+use Rattle.std.proofs.Common.{◌+◌, ◌-◌, ◌/◌, ◌^◌, sym, ap, ◌∙◌, ap₂, arith}
 use Rattle.tree.specs.Shape.{width}
 use Rattle.geometry.proofs.Counting.{reach_bounds, rounded_le}
 use Rattle.geometry.proofs.make.width.Goals as goal

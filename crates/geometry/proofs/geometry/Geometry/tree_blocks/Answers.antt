@@ -1,5 +1,5 @@
 use Rattle.std.proofs.Common.{◌≡◌, ◌+◌, sym, ◌∙◌, ap₂, arith}
-use Rattle.tree.specs.Shape.{levels, tree_blocks}
+use Rattle.tree.specs.Shape.{tree_blocks}
 use Rattle.geometry.specs.Of.{shape_of}
 use Rattle.geometry.proofs.Bounds.{bounds, tree_bound, blocks_none, blocks_some}
 use Rattle.geometry.proofs.geometry.Geometry.tree_blocks.Goals as goal

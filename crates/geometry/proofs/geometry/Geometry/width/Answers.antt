@@ -1,6 +1,6 @@
 use Rattle.std.proofs.Common.{arith}
 use Rattle.geometry.specs.Of.{shape_of}
-use Rattle.geometry.proofs.Bounds.{Bounds, bounds, width_one}
+use Rattle.geometry.proofs.Bounds.{bounds, width_one}
 use Rattle.geometry.proofs.geometry.Geometry.width.Goals as goal
 
 pub returns-then-steps-self : goal.returns-then-steps-self
