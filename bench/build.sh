@@ -1,11 +1,11 @@
 #!/bin/sh
 # Times `card build` on an image of 64 MiB against `veritysetup format` with OpenSSL's code for no processor
-# extensions, in one run, and compares the trees. Not a test. It wants target/bin/card (rt check card) and veritysetup.
+# extensions, in one run, and compares the trees. Not a test. It wants crates/card/out/card (rt run, in crates/card) and veritysetup.
 set -eu
 
 here=$(CDPATH= cd -- "$(dirname -- "$0")" && pwd)
-card=$(dirname -- "$here")/target/bin/card
-[ -x "$card" ] || { echo "bench: no $card: run 'rt check card' first" >&2; exit 1; }
+card=$(dirname -- "$here")/crates/card/out/card
+[ -x "$card" ] || { echo "bench: no $card: run 'rt run' in crates/card first" >&2; exit 1; }
 command -v veritysetup >/dev/null || { echo "bench: no veritysetup" >&2; exit 1; }
 
 room=$(mktemp -d)

@@ -14,11 +14,11 @@ trap 'exit 1' HUP INT TERM
 
 # A repository of the libraries and the timing program alone.
 mkdir -p "$room/crates/speed/src"
-for crate in constants sha2 digest; do cp -r "$root/crates/$crate" "$room/crates/"; done
+for crate in constants sha2_block digest; do cp -r "$root/crates/$crate" "$room/crates/"; done
 cp "$here/speed.rs.txt" "$room/crates/speed/src/main.rt"
-printf '%s\n' 'constants:' 'sha2: constants' 'digest: constants sha2' 'speed: digest' >"$room/crates.txt"
+printf '%s\n' 'constants:' 'sha2_block: constants' 'digest: constants sha2_block' 'speed: digest anyhow' >"$room/crates.txt"
 
-if ! (cd "$room" && rt check speed) >"$room/check.log" 2>&1; then
+if ! (cd "$room/crates/speed" && rt run) >"$room/check.log" 2>&1; then
     tail -n 20 "$room/check.log" >&2
     echo "bench: the timing program was not proved, so it was not built" >&2
     exit 1
@@ -31,7 +31,7 @@ openssl_rate() {
     done | awk -v name="$1" '$1 == name { rate = $2 + 0; if (rate > best) best = rate } END { print best }'
 }
 
-"$room/target/bin/speed" time >"$room/ours"
+"$room/crates/speed/out/speed" time >"$room/ours"
 while read -r name micros _; do
     awk -v name="$name" -v micros="$micros" -v theirs="$(openssl_rate "$name")" 'BEGIN {
         ours = 64 * 1024 * 1024 / micros
