@@ -1,6 +1,7 @@
 #!/bin/sh
 # Times `card build` on an image of 64 MiB against `veritysetup format` with OpenSSL's code for no processor
-# extensions, in one run, and compares the trees. Not a test. It wants crates/card/out/card (rt run, in crates/card) and veritysetup.
+# extensions, in one run, and compares the trees. Not a test. It wants veritysetup, and crates/card/out/card (`rt run`
+# in crates/card builds it, and says how it is used).
 set -eu
 
 here=$(CDPATH= cd -- "$(dirname -- "$0")" && pwd)

@@ -15,6 +15,7 @@ trap 'exit 1' HUP INT TERM
 # A repository of the libraries and the timing program alone.
 mkdir -p "$room/crates/speed/src"
 for crate in constants sha2_block digest; do cp -r "$root/crates/$crate" "$room/crates/"; done
+rm -rf "$room"/crates/*/out
 cp "$here/speed.rs.txt" "$room/crates/speed/src/main.rt"
 printf '%s\n' 'constants:' 'sha2_block: constants' 'digest: constants sha2_block' 'speed: digest anyhow' >"$room/crates.txt"
 

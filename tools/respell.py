@@ -124,8 +124,9 @@ def main():
     print(f"respell: {len(new)} files")
 
 
-# Here a definition gets the name of a function of src/, or of a module of proofs/ that is named after one. A clause
-# cannot name a function, and a path cannot name a definition's module, so the two stay apart.
+# Here a definition gets the name of a function of src/, or of a module of proofs/ that is named after one: a clause
+# cannot name a function, and a path names modules alone. And the fields `data_block` and `hash_block` of a shape get
+# the name of parameters and of a geometry's fields: a field is named behind a dot alone. So the two stay apart.
 KNOWN = {
     "crates/builder/src/fill.rt: hashBlock and hash_block",
     "crates/constants/proofs/round_constants/Answers.antt: roundConstants and round_constants",
