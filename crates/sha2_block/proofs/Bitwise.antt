@@ -1,5 +1,5 @@
 -- Ch and Maj with fewer operations: the same bit by bit.
-use Rattle.std.proofs.Common.{◌≡◌, ℕ, zero, suc, ◌-◌, ◌/◌, ◌%◌, ◌^◌, ◌<◌, sym, refl, ap, ◌∙◌, subst, inl, inr, arith}
+use Rattle.std.proofs.Common.{◌≡◌, ℕ, zero, suc, ◌+◌, ◌-◌, ◌/◌, ◌%◌, ◌^◌, ◌<◌, sym, refl, ap, ◌∙◌, subst, inl, inr, arith}
 use Rattle.std.proofs.lemmas.Bool.{cases_eq}
 use lib.Bits.{bit_and, bit_xor, xor_shr, and_shr, xor_mod, and_mod}
 
@@ -56,10 +56,20 @@ choice_bits (suc k) x y z hx hy hz =
 abbrev Maj : ℕ → ℕ → ℕ → ℕ
 Maj x y z = bit_xor y (bit_and (bit_xor x y) (bit_xor y z))
 
-pub majority_bits : (k x y z : ℕ) → x < 2 ^ k → y < 2 ^ k → z < 2 ^ k → Maj x y z ≡ bit_xor (bit_xor (bit_and x y) (bit_and x z)) (bit_and y z)
+majority_bits : (k x y z : ℕ) → x < 2 ^ k → y < 2 ^ k → z < 2 ^ k → Maj x y z ≡ bit_xor (bit_xor (bit_and x y) (bit_and x z)) (bit_and y z)
 majority_bits zero x y z hx hy hz = no_bits (λ i j l. Maj i j l ≡ bit_xor (bit_xor (bit_and i j) (bit_and i l)) (bit_and j l)) refl x y z hx hy hz
 majority_bits (suc k) x y z hx hy hz =
     by_bits
     (simp (xor_half, and_half) (majority_bits k (x / 2) (y / 2) (z / 2) (omega arith) (omega arith) (omega arith)))
     (simp (xor_low, and_low)
     (three_bits (λ i j l. Maj i j l ≡ bit_xor (bit_xor (bit_and i j) (bit_and i l)) (bit_and j l)) refl refl refl refl refl refl refl refl x y z))
+
+below_power : (n : ℕ) → n < 2 ^ n
+below_power zero = omega arith
+below_power (suc n) = omega (arith, below_power n)
+
+pub majority_of : (x y z : ℕ) → Maj x y z ≡ bit_xor (bit_xor (bit_and x y) (bit_and x z)) (bit_and y z)
+majority_of x y z =
+    let k = x + y + z in
+    let all : k < 2 ^ k = below_power k in
+    majority_bits k x y z (omega arith) (omega arith) (omega arith)

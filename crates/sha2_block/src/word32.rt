@@ -15,6 +15,10 @@ impl Word for u32 {
 
     ghost constants = { refl };
 
+    ghost ands = { λ x y. (tt, λ r e. e) };
+
+    ghost xors = { λ x y. (tt, λ r e. e) };
+
     fn size() -> usize {
         4
     }
@@ -48,10 +52,6 @@ impl Word for u32 {
         z ^ (self & (y ^ z))
     }
 
-    fn majority(self, y: u32, z: u32) -> u32 {
-        y ^ ((self ^ y) & (y ^ z))
-    }
-
     fn upper(k: u64) -> u32 {
         (k >> 32) as u32
     }
@@ -64,8 +64,8 @@ impl Word for u32 {
     }
 
     fn write(self, out: &mut [u8]) {
-        if out.len() >= 4 {
-            out[0..4].copy_from_slice(&self.to_be_bytes());
+        if let Some(front) = out.first_chunk_mut() {
+            *front = self.to_be_bytes();
         }
     }
 }

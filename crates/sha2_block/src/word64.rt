@@ -15,6 +15,10 @@ impl Word for u64 {
 
     ghost constants = { refl };
 
+    ghost ands = { λ x y. (tt, λ r e. e) };
+
+    ghost xors = { λ x y. (tt, λ r e. e) };
+
     fn size() -> usize {
         8
     }
@@ -48,10 +52,6 @@ impl Word for u64 {
         z ^ (self & (y ^ z))
     }
 
-    fn majority(self, y: u64, z: u64) -> u64 {
-        y ^ ((self ^ y) & (y ^ z))
-    }
-
     fn upper(k: u64) -> u64 {
         k
     }
@@ -64,8 +64,8 @@ impl Word for u64 {
     }
 
     fn write(self, out: &mut [u8]) {
-        if out.len() >= 8 {
-            out[0..8].copy_from_slice(&self.to_be_bytes());
+        if let Some(front) = out.first_chunk_mut() {
+            *front = self.to_be_bytes();
         }
     }
 }

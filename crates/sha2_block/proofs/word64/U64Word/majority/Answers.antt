@@ -1,6 +1,0 @@
-use Rattle.std.proofs.Common.{rules}
-use Rattle.sha2_block.proofs.Bitwise.{majority_bits}
-use Rattle.sha2_block.proofs.word64.U64Word.majority.Goals as goal
-
-pub returns : goal.returns
-returns c = majority_bits 64 c.args.self c.args.y c.args.z (search rules) (search rules) (search rules)
