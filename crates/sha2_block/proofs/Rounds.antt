@@ -1,5 +1,5 @@
 -- Rounds, a few at a time.
-use Rattle.std.proofs.Common.{◌≡◌, ℕ, zero, suc, ◌+◌, ◌-◌, ◌*◌, ◌≤◌, List, ◌++◌, length, get_or, drop, sym, refl, ap, ◌∙◌, subst, ap₂, add-zero, add_assoc, zero-add, one-add, arith}
+use Rattle.std.proofs.Common.{◌≡◌, ℕ, zero, suc, ◌+◌, ◌-◌, ◌≤◌, List, ◌++◌, length, get_or, drop, sym, refl, ap, ◌∙◌, subst, ap₂, add-zero, add_assoc, zero-add, one-add, arith}
 use Rattle.std.proofs.lemmas.List.{get_or_append_left, get_or-drop}
 use Rattle.sha2_block.specs.Variant.{Variant}
 use Rattle.sha2_block.specs.Block.{Eight, round, rounds_from, extended, schedule}
@@ -62,11 +62,8 @@ module _ (v : Variant) where
   pub then_rounds : (t n k : ℕ) (ws ws' ws'' : List ℕ) (s s' s'' : Eight) → LeadsTo v t n ws s ws' s' → LeadsTo v (t + n) k ws' s' ws'' s'' → LeadsTo v t (n + k) ws s ws'' s''
   then_rounds t n k ws ws' ws'' s s' s'' one two m = ap (λ j. rounds_left v t ws j s) (add_assoc n k m) ∙ one (k + m) ∙ two m ∙ ap (λ j. rounds_left v j ws'' m s'') (add_assoc t n k)
 
-  pub next_turn : (i : ℕ) (ws ws' ws'' : List ℕ) (s s' s'' : Eight) → LeadsTo v 0 (16 * i) ws s ws' s' → LeadsTo v (16 * i) 16 ws' s' ws'' s'' → LeadsTo v 0 (16 * (i + 1)) ws s ws'' s''
-  next_turn i ws ws' ws'' s s' s'' one two =
-      let sum : 16 * i + 16 ≡ 16 * (i + 1) = omega arith in
-      subst (λ n. LeadsTo v 0 n ws s ws'' s'') sum
-      (then_rounds 0 (16 * i) 16 ws ws' ws'' s s' s'' one (subst (λ t. LeadsTo v t 16 ws' s' ws'' s'') (sym (zero-add (16 * i))) two))
+  pub next_turn : (t : ℕ) (ws ws' ws'' : List ℕ) (s s' s'' : Eight) → LeadsTo v 0 t ws s ws' s' → LeadsTo v t 16 ws' s' ws'' s'' → LeadsTo v 0 (t + 16) ws s ws'' s''
+  next_turn t ws ws' ws'' s s' s'' one two = then_rounds 0 t 16 ws ws' ws'' s s' s'' one (subst (λ k. LeadsTo v k 16 ws' s' ws'' s'') (sym (zero-add t)) two)
 
   -- once all rounds are done
   pub rounds_done : (n : ℕ) (block ws : List ℕ) (s s' : Eight) → length block ≡ 16 → 16 ≤ v.rounds → n ≡ v.rounds → LeadsTo v 0 n block s ws s'

@@ -162,21 +162,19 @@ fn sum<W: Word>(s: State<W>, t: State<W>) -> State<W>
 pub fn compress<W: Word>(state: State<W>, block: Words<W>) -> State<W>
     ensures { eight W.value result ≡ block_step W.variant (eight W.value state) (sixteen W.value block) }
 {
-    let turns = W::rounds() / 16 - 1;
+    let last = W::rounds() - 16;
     let mut work = Work {
         state,
         window: block,
     };
-    for i in 0..turns {
-        work = turn::<W, false>(work, 16 * i);
+    for t in (0..last).step_by(16) {
+        work = turn::<W, false>(work, t);
     }
-    let last = turn::<W, true>(work, 16 * turns);
-    sum(state, last.state)
+    let done = turn::<W, true>(work, last);
+    sum(state, done.state)
 }
 
 // The schedule, word by word, and the window that is kept of it.
-pub fn schedule_stands() -> u8
+pub fn schedule_stands()
     ensures { ScheduleStands }
-{
-    0
-}
+{}

@@ -1,11 +1,19 @@
-use Rattle.std.proofs.Common.{◌≡◌, ◌+◌, ◌-◌, ◌*◌, ◌/◌, ◌≤◌, refl, ap, ◌∙◌, subst, arith}
+use Rattle.std.proofs.Common.{◌≡◌, ℕ, ◌+◌, ◌-◌, refl, ap, ◌∙◌, subst, sym, arith}
 use Rattle.sha2_block.specs.Block.{block_step, added}
+use Rattle.sha2_block.specs.declared.block.Work.{Work}
 use Rattle.sha2_block.specs.Window.{LeadsTo, eight, sixteen}
 use Rattle.sha2_block.proofs.Rounds.{next_turn, rounds_done}
 use Rattle.sha2_block.proofs.block.compress.Goals as goal
+use Rattle.sha2_block.proofs.block.compress.Goals.{else-loop-t-test, then-loop-t-test+else-last-t-gt16}
 
-pub loop-i-preserved : goal.loop-i-preserved
-loop-i-preserved g c = next_turn g.W.Word.variant c.loop-i.i _ _ _ _ _ _ c.loop-i.invariant c.turn-work.ensures
+pub loop-t-preserved : goal.loop-t-preserved
+loop-t-preserved g c =
+    let law = g.met.W.Word.turns in
+    record {
+      whole = omega arith;
+      low = omega (arith, law.0, law.2, c.rounds-last.ensures, c.loop-t.invariant.whole);
+      led = next_turn g.W.Word.variant c.loop-t.t _ _ _ _ _ _ c.loop-t.invariant.led c.turn-work.ensures;
+    }
 
 pub returns : goal.returns
 unfolding block_step
@@ -13,14 +21,17 @@ returns g c =
     let v = g.W.Word.variant in
     let value = g.W.Word.value in
     let law = g.met.W.Word.turns in
-    let turns = c.rounds.result / 16 - 1 in
-    let enough : 16 ≤ v.rounds = law.0 in
-    let last : c.loop-i.i ≡ turns = omega arith in
-    let count : 16 * (turns + 1) ≡ v.rounds = omega (arith, law.1, law.2, c.rounds.ensures) in
+    let last = c.rounds-last.result - 16 in
     let block = sixteen value c.args.block in
     let state = eight value c.args.state in
-    let window = sixteen value c.loop-i.work.window in
-    let work = eight value c.loop-i.work.state in
-    let turned = subst (λ n. LeadsTo v 0 (16 * n) block state window work) last c.loop-i.invariant in
-    let all = next_turn v turns block window _ state work _ turned c.turn-last.ensures in
-    c.sum.ensures ∙ ap (added v state) (rounds_done v (16 * (turns + 1)) block _ state _ refl enough count all)
+    let Led = λ (n : ℕ) (w : Work _). LeadsTo v 0 n block state (sixteen value w.window) (eight value w.state) in
+    let before = c.loop-t.invariant.led in
+    let led : Led last c.loop-t-test.work =
+    elim c.loop-t-test.branch [
+      | else-loop-t-test w ↦ let at : c.loop-t.t ≡ last = omega arith in
+          subst (Led last) (sym w.work-is) (subst (λ n. Led n c.loop-t.work) at before)
+      | then-loop-t-test+else-last-t-gt16 w ↦ let at : c.loop-t.t + 16 ≡ last = omega (arith, law.0, law.2, c.rounds-last.ensures) in
+          subst (Led last) (sym w.work-is) (subst (λ n. Led n w.turn-work.result) at (next_turn v c.loop-t.t block _ _ state _ _ before w.turn-work.ensures))
+    ] in
+    let all = next_turn v last block _ _ state _ _ led c.turn-done.ensures in
+    c.sum.ensures ∙ ap (added v state) (rounds_done v (last + 16) block _ state _ refl law.0 (omega (arith, law.0, c.rounds-last.ensures)) all)
