@@ -55,6 +55,7 @@ fn constant<W: Word>(t: usize) -> W
     W::upper(round_constants()[t])
 }
 
+#[tactic(auto, unfolding(crate::specs::Block::round))]
 fn round<W: Word>(s: State<W>, k: W, w: W) -> State<W>
     ensures { eight W.value result ≡ one_round W.variant (W.value k) (W.value w) (eight W.value s) }
 {
@@ -107,6 +108,7 @@ fn shift<W: Word>(w: Words<W>) -> Words<W>
 }
 
 // Round `t` + `I`. The const parameters make each of a turn's steps a function of its own, so that each is inlined.
+#[tactic(auto, using(crate::proofs::Rounds::one_step))]
 fn step<W: Word, const I: usize, const LAST: bool>(work: Work<W>, t: usize) -> Work<W>
     requires { t + I < 80 }
     ensures { LeadsTo W.variant (t + I) 1 (sixteen W.value work.window) (eight W.value work.state) (sixteen W.value result.window) (eight W.value result.state) }
@@ -143,6 +145,7 @@ fn turn<W: Word, const LAST: bool>(work: Work<W>, t: usize) -> Work<W>
 }
 
 // Two states, added word by word.
+#[tactic(auto, unfolding(crate::specs::Block::added))]
 fn sum<W: Word>(s: State<W>, t: State<W>) -> State<W>
     ensures { eight W.value result ≡ added W.variant (eight W.value s) (eight W.value t) }
 {
