@@ -2,5 +2,4 @@ pub mod Buffer
 pub mod Padding
 pub mod Blocks
 pub mod Output
-pub mod Accepted
 pub mod Joining

@@ -1,26 +1,14 @@
 -- The starting state, and the bytes of the last one.
-use Rattle.std.proofs.Common.{◌≡◌, ℕ, ◌+◌, ◌-◌, ◌*◌, ◌/◌, ◌≤◌, cond, leb, ◌⊎◌, List, [], ◌++◌, length, get_or, take, drop, sym, refl, ap, ◌∙◌, inl, inr, arith}
-use native.Mathlib.Nat.{sub-zero}
+use Rattle.std.proofs.Common.{◌≡◌, ℕ, ◌+◌, ◌*◌, ◌/◌, ◌≤◌, cond, leb, ◌⊎◌, List, [], ◌++◌, length, take, drop, sym, ap, ◌∙◌, inl, inr, arith}
 use borrow.Rule.Slice.PartMut.{mid_of, put_mid}
 use Rattle.std.proofs.lemmas.List.{append-nil, length-take-le, length-drop, drop_all, take-take}
 use Rattle.std.proofs.lemmas.Slice.{take-put_mid}
 use Rattle.std.proofs.lemmas.Bool.{le-leb, cond-true}
-use Rattle.constants.specs.Rule.{starting_words}
-use Rattle.sha2_block.specs.Variant.{Variant, upper}
+use Rattle.sha2_block.specs.Variant.{Variant}
 use Rattle.sha2_block.specs.Bytes.{big_endian}
 use Rattle.sha2_block.specs.Block.{Eight}
-use Rattle.digest.specs.Hash.{start_of, state_bytes}
+use Rattle.digest.specs.Hash.{state_bytes}
 use Rattle.digest.proofs.Padding.{length-big_endian}
-
-abbrev made : (a b c d e f g h : ℕ) → Eight
-made a b c d e f g h = record { a = a; b = b; c = c; d = d; e = e; f = f; g = g; h = h }
-
-pub start_is : (v : Variant) (ws : List ℕ) (a b c d e f g h : ℕ) → ws ≡ starting_words
-    → a ≡ upper v.bits (get_or ws 0 0) → b ≡ upper v.bits (get_or ws 1 0) → c ≡ upper v.bits (get_or ws 2 0) → d ≡ upper v.bits (get_or ws 3 0)
-    → e ≡ upper v.bits (get_or ws 4 0) → f ≡ upper v.bits (get_or ws 5 0) → g ≡ upper v.bits (get_or ws 6 0) → h ≡ upper v.bits (get_or ws 7 0)
-    → made a b c d e f g h ≡ start_of v starting_words
-unfolding start_of
-start_is v ws a b c d e f g h table ha hb hc hd he hf hg hh = rw (← table, ha, hb, hc, hd, he, hf, hg, hh) refl
 
 -- a word over the bytes at a place
 pub written_word : (v : Variant) (out new : List ℕ) (at n k x : ℕ) → n ≡ v.bits / 8 → k ≡ n → length out ≡ 64 → at + v.bits / 8 ≤ 64
@@ -60,5 +48,5 @@ eight_writes v law s n o1 o2 o3 o4 o5 o6 o7 o8 word h0 h1 h2 h3 h4 h5 h6 h7 =
     ap (λ k. take k o8) (eight_words v.bits n law word) ∙ t8
 
 -- the first bytes of what begins with a state's
-pub kept : (size bits : ℕ) (bytes all out : List ℕ) → size ≤ bits → take bits all ≡ bytes → out ≡ take (size - 0) all → out ≡ take size bytes
-kept size bits bytes all out fits is copied = copied ∙ ap (λ k. take k all) (sub-zero size) ∙ sym (take-take size bits all fits) ∙ ap (take size) is
+pub kept : (size bits : ℕ) (bytes all out : List ℕ) → size ≤ bits → take bits all ≡ bytes → out ≡ take size all → out ≡ take size bytes
+kept size bits bytes all out fits is copied = copied ∙ sym (take-take size bits all fits) ∙ ap (take size) is

@@ -3,3 +3,4 @@ pub mod Hash
 pub mod Answer
 pub mod Laws
 pub mod Buffer
+pub mod Message

@@ -1,106 +1,81 @@
 // A whole message through the block step, one text for both words.
-ghost use Rattle.std.specs.Prelude.{◌≡◌, ◌+◌, ◌*◌, ◌/◌, ◌≤◌, ◌++◌, length, take, replicate};
+ghost use Rattle.std.specs.Prelude.{◌≡◌, ◌+◌, ◌*◌, ◌/◌, ◌≤◌, ◌++◌, length, take};
 ghost use Rattle.constants.specs.Rule.{starting_words};
-ghost use Rattle.digest.specs.Buffer.{Behind, Filled};
+ghost use Rattle.digest.specs.Message.{joined};
 ghost use Rattle.digest.specs.Hash.{block_at, hash as hash_of, last_state, start_of, state_bytes, word_at};
-ghost use Rattle.digest.specs.Padding.{padded};
 ghost use Rattle.sha2_block.specs.Bytes.{big_endian};
 ghost use Rattle.sha2_block.specs.Window.{eight, sixteen};
 
+use crate::message::Message;
 use constants::starting_words;
 use sha2_block::{State, Word, Words, compress};
 
-// Writes the bytes at a place of a buffer that is zeros from there on.
-fn put(buf: &mut [u8; 4480], at: usize, bytes: &[u8])
-    requires { at + length bytes.now ≤ 4480 }
-    ensures { Behind buf.old at bytes.now buf.new }
+// Word `i` of a block.
+#[tactic(auto, using(crate::proofs::Blocks::read_word))]
+fn word<W: Word>(block: &[u8], i: usize) -> W
+    requires { (i + 1) * (W.variant.bits / 8) ≤ length block.now }
+    ensures { W.value result ≡ word_at W.variant block.now i }
 {
-    buf[at..at + bytes.len()].copy_from_slice(bytes);
+    W::read(&block[i * W::size()..])
 }
 
-// Writes the padded message into a buffer of zeros, and answers its length.
-fn pad<W: Word>(first: &[u8], second: &[u8], buf: &mut [u8; 4480]) -> usize
-    requires { (length first.now + length second.now ≤ 4352) × (buf.old ≡ replicate 4480 0) }
-    ensures len { result ≡ length (padded W.variant (first.now ++ second.now)) }
-    ensures bytes { Filled (padded W.variant (first.now ++ second.now)) buf.new }
+// The sixteen words of a block.
+#[tactic(auto, using(crate::proofs::Blocks::block_is))]
+fn words<W: Word>(block: &[u8]) -> Words<W>
+    requires { 16 * (W.variant.bits / 8) ≤ length block.now }
+    ensures { sixteen W.value result ≡ block_at W.variant block.now 0 }
 {
-    let n = first.len() + second.len();
-    let word = W::size();
-    let block = 16 * word;
-    let end = (n + 2 * word) / block * block + block;
-    put(buf, 0, first);
-    put(buf, first.len(), second);
-    put(buf, n, &[0x80]);
-    put(buf, end - 8, &(8 * n as u64).to_be_bytes());
-    end
-}
-
-// Word `i` of the bytes.
-fn word<W: Word>(bytes: &[u8; 4480], i: usize) -> W
-    requires { (i + 1) * (W.variant.bits / 8) ≤ 4480 }
-    ensures { W.value result ≡ word_at W.variant bytes.now i }
-{
-    let n = W::size();
-    W::read(&bytes[i * n..i * n + n])
-}
-
-// The sixteen words of block `i`.
-fn block<W: Word>(bytes: &[u8; 4480], i: usize) -> Words<W>
-    requires { 16 * (i + 1) * (W.variant.bits / 8) ≤ 4480 }
-    ensures { sixteen W.value result ≡ block_at W.variant bytes.now i }
-{
-    let at = 16 * i;
     Words {
-        w0: word(bytes, at + 0),
-        w1: word(bytes, at + 1),
-        w2: word(bytes, at + 2),
-        w3: word(bytes, at + 3),
-        w4: word(bytes, at + 4),
-        w5: word(bytes, at + 5),
-        w6: word(bytes, at + 6),
-        w7: word(bytes, at + 7),
-        w8: word(bytes, at + 8),
-        w9: word(bytes, at + 9),
-        w10: word(bytes, at + 10),
-        w11: word(bytes, at + 11),
-        w12: word(bytes, at + 12),
-        w13: word(bytes, at + 13),
-        w14: word(bytes, at + 14),
-        w15: word(bytes, at + 15),
+        w0: word(block, 0),
+        w1: word(block, 1),
+        w2: word(block, 2),
+        w3: word(block, 3),
+        w4: word(block, 4),
+        w5: word(block, 5),
+        w6: word(block, 6),
+        w7: word(block, 7),
+        w8: word(block, 8),
+        w9: word(block, 9),
+        w10: word(block, 10),
+        w11: word(block, 11),
+        w12: word(block, 12),
+        w13: word(block, 13),
+        w14: word(block, 14),
+        w15: word(block, 15),
     }
 }
 
-// The state after the two strings, joined, from a starting state.
-fn digested<W: Word>(start: State<W>, first: &[u8], second: &[u8]) -> State<W>
-    requires { length first.now + length second.now ≤ 4352 }
-    ensures { eight W.value result ≡ last_state W.variant (eight W.value start) (first.now ++ second.now) }
+// The state after the message, from a starting state.
+fn digested<W: Word>(start: State<W>, message: &Message<'_>) -> State<W>
+    ensures { eight W.value result ≡ last_state W.variant (eight W.value start) (joined message.now) }
 {
     let mut buf = [0u8; 4480];
-    let end = pad::<W>(first, second, &mut buf);
     let mut state = start;
-    for i in 0..end / (16 * W::size()) {
-        state = compress(state, block(&buf, i));
+    for block in message.pad::<W>(&mut buf).chunks_exact(16 * W::size()) {
+        state = compress(state, words(block));
     }
     state
 }
 
+#[tactic(auto, unfolding(crate::specs::Hash::start_of))]
 fn starting_state<W: Word>() -> State<W>
     ensures { eight W.value result ≡ start_of W.variant starting_words }
 {
-    let s = starting_words();
+    let [a, b, c, d, e, f, g, h] = *starting_words();
     State {
-        a: W::upper(s[0]),
-        b: W::upper(s[1]),
-        c: W::upper(s[2]),
-        d: W::upper(s[3]),
-        e: W::upper(s[4]),
-        f: W::upper(s[5]),
-        g: W::upper(s[6]),
-        h: W::upper(s[7]),
+        a: W::upper(a),
+        b: W::upper(b),
+        c: W::upper(c),
+        d: W::upper(d),
+        e: W::upper(e),
+        f: W::upper(f),
+        g: W::upper(g),
+        h: W::upper(h),
     }
 }
 
 // Writes a word over the bytes at a place.
+#[tactic(auto, using(crate::proofs::Output::written_word))]
 fn put_word<W: Word>(out: &mut [u8; 64], at: usize, w: W)
     requires { at + W.variant.bits / 8 ≤ 64 }
     ensures { take (at + W.variant.bits / 8) out.new ≡ take at out.old ++ big_endian (W.variant.bits / 8) (W.value w) }
@@ -109,6 +84,7 @@ fn put_word<W: Word>(out: &mut [u8; 64], at: usize, w: W)
 }
 
 // The bytes of a state; those past them are zeros.
+#[tactic(auto, using(crate::proofs::Output::eight_writes))]
 fn state_bytes<W: Word>(s: State<W>) -> [u8; 64]
     ensures { take W.variant.bits result ≡ state_bytes W.variant (eight W.value s) }
 {
@@ -125,12 +101,12 @@ fn state_bytes<W: Word>(s: State<W>) -> [u8; 64]
     out
 }
 
-// Writes the first bytes of the digest of the two strings, joined, as many as `out` has.
-pub(crate) fn hash<W: Word>(first: &[u8], second: &[u8], out: &mut [u8])
-    requires { (length first.now + length second.now ≤ 4352) × (length out.old ≤ W.variant.bits) }
-    ensures { out.new ≡ hash_of W.variant starting_words (length out.old) (first.now ++ second.now) }
+// Writes the first bytes of the digest of the message, as many as `out` has.
+#[tactic(auto, using(crate::proofs::Output::kept), unfolding(crate::specs::Hash::hash))]
+pub(crate) fn hash<W: Word>(message: &Message<'_>, out: &mut [u8])
+    requires { length out.old ≤ W.variant.bits }
+    ensures { out.new ≡ hash_of W.variant starting_words (length out.old) (joined message.now) }
 {
-    let bytes = state_bytes(digested(starting_state::<W>(), first, second));
-    let n = out.len();
-    out.copy_from_slice(&bytes[0..n]);
+    let bytes = state_bytes(digested(starting_state::<W>(), message));
+    out.copy_from_slice(&bytes[..out.len()]);
 }

@@ -2,15 +2,11 @@
 ghost use Rattle.digest.specs.Laws.{PaddingStands, SplitStands};
 
 // A padded message is whole blocks, and is the message, 80 hex, the fewest zeros and the bit length.
-pub fn padding_stands() -> u8
+pub fn padding_stands()
     ensures { PaddingStands }
-{
-    0
-}
+{}
 
 // A digest's answer depends on the joined string alone.
-pub fn split_stands() -> u8
+pub fn split_stands()
     ensures { SplitStands }
-{
-    0
-}
+{}

@@ -4,10 +4,12 @@
 mod answer;
 mod hash;
 mod laws;
+mod message;
+mod pad;
 mod refusal;
 mod sha;
 
-pub use answer::LIMIT;
 pub use laws::{padding_stands, split_stands};
+pub use pad::LIMIT;
 pub use refusal::Refusal;
 pub use sha::{Digest, Sha256, Sha512};

@@ -14,28 +14,32 @@ pub trait Digest {
 
     const NUMBER: u32;
 
-    ghost size: { ℕ };
+    ghost LEN: { ℕ };
 
-    ghost id: { ℕ };
+    ghost NUMBER: { ℕ };
 
     ghost meaning: { List ℕ → List ℕ };
 
-    // `LEN`, for code that is generic over the digest.
-    fn output_len(&self) -> usize
-        ensures { result ≡ size };
+    final fn output_len(&self) -> usize
+        ensures { result ≡ LEN }
+    {
+        Self::LEN
+    }
 
-    // `NUMBER`, likewise.
-    fn label_number(&self) -> u32
-        ensures { result ≡ id };
+    final fn label_number(&self) -> u32
+        ensures { result ≡ NUMBER }
+    {
+        Self::NUMBER
+    }
 
     // Writes the digest of `first` joined to `second` into `out`. Refused, it leaves `out` all zeros.
     fn digest(&self, first: &[u8], second: &[u8], out: &mut [u8]) -> Result<(), Refusal>
-        ensures answer { result ≡ answer_of size first.now second.now out.old }
-        ensures bytes { out.new ≡ written size meaning first.now second.now out.old };
+        ensures answer { result ≡ answer_of LEN first.now second.now out.old }
+        ensures bytes { out.new ≡ written LEN meaning first.now second.now out.old };
 
-    ghost sizes: { (size ≡ 32) ⊎ (size ≡ 64) };
+    ghost sizes: { (LEN ≡ 32) ⊎ (LEN ≡ 64) };
 
-    ghost lengths: { (m : List ℕ) → length (meaning m) ≡ size };
+    ghost lengths: { (m : List ℕ) → length (meaning m) ≡ LEN };
 }
 
 #[derive(Clone, Copy)]
@@ -46,9 +50,9 @@ impl Digest for Sha256 {
 
     const NUMBER: u32 = 1;
 
-    ghost size = { 32 };
+    ghost LEN = { 32 };
 
-    ghost id = { 1 };
+    ghost NUMBER = { 1 };
 
     ghost meaning = { sha256 };
 
@@ -56,14 +60,7 @@ impl Digest for Sha256 {
 
     ghost lengths = { unfold sha256 hash state_bytes in λ m. refl };
 
-    fn output_len(&self) -> usize {
-        Self::LEN
-    }
-
-    fn label_number(&self) -> u32 {
-        Self::NUMBER
-    }
-
+    #[tactic(auto, unfolding(crate::specs::Hash::sha256))]
     fn digest(&self, first: &[u8], second: &[u8], out: &mut [u8]) -> Result<(), Refusal> {
         answer::<u32>(Self::LEN, first, second, out)
     }
@@ -77,9 +74,9 @@ impl Digest for Sha512 {
 
     const NUMBER: u32 = 2;
 
-    ghost size = { 64 };
+    ghost LEN = { 64 };
 
-    ghost id = { 2 };
+    ghost NUMBER = { 2 };
 
     ghost meaning = { sha512 };
 
@@ -87,14 +84,7 @@ impl Digest for Sha512 {
 
     ghost lengths = { unfold sha512 hash state_bytes in λ m. refl };
 
-    fn output_len(&self) -> usize {
-        Self::LEN
-    }
-
-    fn label_number(&self) -> u32 {
-        Self::NUMBER
-    }
-
+    #[tactic(auto, unfolding(crate::specs::Hash::sha512))]
     fn digest(&self, first: &[u8], second: &[u8], out: &mut [u8]) -> Result<(), Refusal> {
         answer::<u64>(Self::LEN, first, second, out)
     }
