@@ -1,16 +1,10 @@
 -- Counting levels: the least number is one number.
-use Rattle.std.proofs.Common.{◌≡◌, ℕ, ◌+◌, ◌-◌, ◌*◌, ◌/◌, ◌^◌, ◌<◌, ◌≤◌, sym, ap, ◌∙◌, inl, inr, pow-suc, add-one, arith}
+use Rattle.std.proofs.Common.{◌≡◌, ℕ, ◌+◌, ◌-◌, ◌/◌, ◌^◌, ◌<◌, ◌≤◌, inl, inr, Option, None, Some, MatchOption, unwrap_or, arith}
 use native.Mathlib.Nat.{one-le-pow, pow-le-pow_left, pow-le-pow_right}
 use Rattle.std.proofs.lemmas.Nat.{mul-le, div_below}
 use Rattle.std.proofs.lemmas.Bool.{cases_lt, cases_order}
 use Rattle.tree.specs.Shape.{levels_of}
 use Rattle.tree.proofs.Levels.{levels_stand_lem}
-
-pub next_reach : (f m r : ℕ) → r ≡ f ^ m → r * f ≡ f ^ (m + 1)
-next_reach f m r is = ap (λ x. x * f) is ∙ sym (ap (λ k. f ^ k) (add-one m) ∙ pow-suc f m)
-
-pub grows : (r f : ℕ) → 8 ≤ f → r * 8 ≤ r * f
-grows r f wide = mul-le r 8 r f (omega arith) wide
 
 -- a number that is enough, where fewer are not, is the number of levels
 pub least_is : (f n r : ℕ) → 2 ≤ f → n ≤ f ^ r → ((m : ℕ) → m < r → f ^ m < n) → r ≡ levels_of f n
@@ -21,6 +15,13 @@ least_is f n r two enough fewer =
       | inr (inl below) ↦ absurd (omega (arith, law.1 r below))
       | inr (inr above) ↦ absurd (omega (arith, fewer (levels_of f n) above, law.0))
     ]
+
+-- the first number below seven that is enough, or seven
+pub least_found : (f n : ℕ) (r : Option ℕ) → 8 ≤ f → n ≤ 1048576
+    → MatchOption r ((k : ℕ) → 0 ≤ k → k < 7 → f ^ k < n) (λ i. (0 ≤ i) × (i < 7) × (n ≤ f ^ i) × ((k : ℕ) → 0 ≤ k → k < i → f ^ k < n))
+    → unwrap_or r 7 ≡ levels_of f n
+least_found f n None wide few none = least_is f n 7 (omega arith) (omega (arith, pow-le-pow_left wide 7)) (λ m below. none m (omega arith) below)
+least_found f n (Some i) wide few first = least_is f n i (omega arith) first.2 (λ m below. first.3 m (omega arith) below)
 
 -- seven levels are enough within the limits
 pub at_most_seven : (f n r : ℕ) → 8 ≤ f → n ≤ 1048576 → ((m : ℕ) → m < r → f ^ m < n) → r ≤ 7

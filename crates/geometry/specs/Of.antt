@@ -5,7 +5,7 @@ use Rattle.geometry.specs.declared.geometry.Geometry.{Geometry}
 use Rattle.geometry.specs.Limits.{shape, within}
 
 abbrev pub shape_of : Geometry → Shape
-shape_of g = shape g.data_block g.hash_block g.blocks g.slot
+shape_of g = shape g.data_block g.hash_block g.spread.blocks g.slot
 
 -- a geometry of this shape is made exactly where the shape is within the limits
 abbrev pub MadeOf : Shape → Option Geometry → Type 0

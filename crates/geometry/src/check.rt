@@ -13,24 +13,18 @@ pub const SALT_LIMIT: usize = 256;
 impl Label<'_> {
     // The geometry that the label tells.
     pub fn check<D: Digest>(&self, digest: &D) -> Result<Geometry, LabelFault>
-        ensures { Checked D.id D.size self.now result }
+        ensures { Checked D.NUMBER D.LEN self.now result }
     {
         let size = digest.output_len();
-        if self.digest != digest.label_number() {
-            return Err(LabelFault::Limit);
-        }
-        if self.salt.len() > SALT_LIMIT {
-            return Err(LabelFault::Limit);
-        }
-        if self.root.len() != size {
+        if self.digest != digest.label_number()
+            || self.salt.len() > SALT_LIMIT
+            || self.root.len() != size
+        {
             return Err(LabelFault::Limit);
         }
         let data_block = self.data_block as usize;
         let hash_block = self.hash_block as usize;
-        match Geometry::new(data_block, hash_block, self.blocks as usize, size) {
-            Some(geometry) => Ok(geometry),
-            None => Err(LabelFault::Limit),
-        }
+        Geometry::new(data_block, hash_block, self.blocks as usize, size).ok_or(LabelFault::Limit)
     }
 }
 

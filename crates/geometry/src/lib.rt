@@ -4,7 +4,9 @@
 mod check;
 mod geometry;
 mod label;
+mod levels;
 mod make;
+mod spread;
 
 pub use check::SALT_LIMIT;
 pub use geometry::Geometry;

@@ -1,10 +1,11 @@
 // Making a geometry, and reading it.
-ghost use Rattle.std.specs.Prelude.{◌≡◌, ◌*◌, ◌≤◌, true, false};
-ghost use Rattle.geometry.specs.Limits.{is_block_size, is_count, shape, starts as starts_of, within};
+ghost use Rattle.std.specs.Prelude.{◌≡◌, ◌*◌, true, false};
+ghost use Rattle.geometry.specs.Limits.{is_block_size, is_count, shape, within};
 ghost use Rattle.geometry.specs.Of.{MadeOf, shape_of};
-ghost use Rattle.tree.specs.Shape.{fanout as fanout_of, levels as levels_of, levels_of as least_levels, Shape, start as start_of, tree_blocks as tree_blocks_of, width as width_of};
+ghost use Rattle.tree.specs.Shape.{fanout as fanout_of, levels as levels_of, start as start_of, tree_blocks as tree_blocks_of, width as width_of};
 
 use crate::geometry::Geometry;
+use crate::spread::Spread;
 
 fn is_block_size(n: usize) -> bool
     ensures { result ≡ is_block_size n }
@@ -25,17 +26,18 @@ impl Geometry {
         {
             return None;
         }
-        let fanout = hash_block / slot;
-        let levels = count_levels(fanout, blocks);
-        let starts = level_starts(fanout, levels, blocks);
+        let spread = Spread {
+            fanout: hash_block / slot,
+            blocks,
+        };
+        let levels = spread.levels();
         Some(Geometry {
             data_block,
             hash_block,
-            blocks,
             slot,
-            fanout,
+            spread,
             levels,
-            starts,
+            starts: spread.starts(levels),
         })
     }
 
@@ -57,7 +59,7 @@ impl Geometry {
     pub fn blocks(&self) -> usize
         ensures { result ≡ (shape_of self.now).blocks }
     {
-        self.blocks
+        self.spread.blocks
     }
 
     // Bytes of a slot.
@@ -71,7 +73,7 @@ impl Geometry {
     pub fn fanout(&self) -> usize
         ensures { result ≡ fanout_of (shape_of self.now) }
     {
-        self.fanout
+        self.spread.fanout
     }
 
     // Levels of the tree.
@@ -95,7 +97,7 @@ impl Geometry {
         if steps > self.levels {
             return 1;
         }
-        width(self.fanout, steps as u32, self.blocks)
+        self.spread.width(steps as u32)
     }
 
     // Tree blocks in all.
@@ -115,54 +117,4 @@ impl Geometry {
     {
         self.tree_blocks() * self.hash_block
     }
-}
-
-// The least number of levels, 0 included, through which `fanout` reaches every block.
-fn count_levels(fanout: usize, blocks: usize) -> usize
-    requires wide { 8 ≤ fanout }
-    requires narrow { fanout ≤ 128 }
-    requires some { 1 ≤ blocks }
-    requires few { blocks ≤ 1048576 }
-    ensures value { result ≡ least_levels fanout blocks }
-    ensures bound { result ≤ 7 }
-{
-    let mut levels = 0;
-    let mut reach = 1;
-    while reach < blocks {
-        reach *= fanout;
-        levels += 1;
-    }
-    levels
-}
-
-// The blocks `steps` steps above the data.
-fn width(fanout: usize, steps: u32, blocks: usize) -> usize
-    requires wide { 8 ≤ fanout }
-    requires narrow { fanout ≤ 128 }
-    requires low { steps ≤ 7 }
-    requires some { 1 ≤ blocks }
-    requires few { blocks ≤ 1048576 }
-    ensures value { (s : Shape) → fanout_of s ≡ fanout → s.blocks ≡ blocks → result ≡ width_of s steps }
-    ensures bound { result ≤ blocks }
-{
-    let reach = fanout.pow(steps);
-    (blocks + reach - 1) / reach
-}
-
-// Where each level starts: the levels above it come first.
-fn level_starts(fanout: usize, levels: usize, blocks: usize) -> [usize; 7]
-    requires wide { 8 ≤ fanout }
-    requires narrow { fanout ≤ 128 }
-    requires low { levels ≤ 7 }
-    requires some { 1 ≤ blocks }
-    requires few { blocks ≤ 1048576 }
-    ensures { (s : Shape) → fanout_of s ≡ fanout → s.blocks ≡ blocks → levels_of s ≡ levels → result ≡ starts_of s }
-{
-    let mut starts = [0; 7];
-    let mut total = 0;
-    for i in (0..levels).rev() {
-        starts[i] = total;
-        total += width(fanout, i as u32 + 1, blocks);
-    }
-    starts
 }

@@ -15,13 +15,4 @@ overflow_cast-steps c =
     record { fits = omega (arith, g.height, (bounds (shape_of g) g.limits).low) }
 
 pub width-requires : goal.width-requires
-width-requires c =
-    let g = c.args.self.now in
-    let b = bounds (shape_of g) g.limits in
-    record {
-      wide = omega (arith, g.fan, b.wide);
-      narrow = omega (arith, g.fan, b.narrow);
-      low = omega (arith, g.height, b.low);
-      some = b.some;
-      few = b.few;
-    }
+width-requires c = let g = c.args.self.now in omega (arith, g.height, (bounds (shape_of g) g.limits).low)

@@ -1,7 +1,7 @@
 use Rattle.std.proofs.Common.{◌≡◌, suc, ◌-◌, refl, ◌∙◌, subst, arith}
 use Rattle.std.proofs.lemmas.List.{length-set}
 use Rattle.geometry.proofs.Starts.{Counted, none_counted, next_counted, all_counted}
-use Rattle.geometry.proofs.make.level_starts.Goals as goal
+use Rattle.geometry.proofs.spread.Spread.starts.Goals as goal
 
 pub loop-i-init : goal.loop-i-init
 loop-i-init c = (refl, omega arith, λ s fan count height. none_counted s c.args.levels height)
@@ -14,7 +14,7 @@ loop-i-preserved c =
       length-set c.loop-i.starts (i - 1) c.loop-i.total ∙ inv.0,
       omega (arith, c.width-total.ensures.bound),
       λ s fan count height.
-          next_counted s c.args.levels height i (i - 1) c.loop-i.total c.width-total.result c.loop-i.starts next c.loop-i.auto.i inv.0 c.requires.low
+          next_counted s c.args.levels height i (i - 1) c.loop-i.total c.width-total.result c.loop-i.starts next c.loop-i.auto.i inv.0 c.requires
           (c.width-total.ensures.value s fan count) (inv.2 s fan count height),
     )
 
