@@ -3,8 +3,6 @@
 
 ghost use Rattle.examples.specs.Examples.{Examples};
 
-pub fn examples_stand() -> u8
+pub fn examples_stand()
     ensures { Examples }
-{
-    0
-}
+{}

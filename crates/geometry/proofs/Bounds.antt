@@ -6,6 +6,8 @@ use Rattle.std.proofs.lemmas.List.FromFn.{get_or-map-range_with_len}
 use Rattle.std.proofs.lemmas.Bool.{and_parts, or_cases, eqb-true, leb-true}
 use Rattle.tree.specs.Shape.{Shape, fanout, levels, width, blocks_from, start, tree_blocks}
 use Rattle.tree.proofs.Levels.{levels_stand_lem}
+use Rattle.geometry.specs.declared.geometry.Geometry.{Geometry}
+use Rattle.geometry.specs.Of.{shape_of}
 use Rattle.geometry.specs.Limits.{is_block_size, is_count, is_slot, within, starts}
 use Rattle.geometry.proofs.Counting.{at_most_seven, rounded_le}
 
@@ -41,7 +43,7 @@ pub record Bounds (s : Shape) : Type 0 where
   pub narrow : fanout s ≤ 128
   pub low : levels s ≤ 7
 
-pub bounds : (s : Shape) → within s ≡ true → Bounds s
+bounds : (s : Shape) → within s ≡ true → Bounds s
 bounds s h =
     let a = and_parts (is_block_size s.data_block && is_block_size s.hash_block && is_count s.blocks) (is_slot s.slot) h in
     let b = and_parts (is_block_size s.data_block && is_block_size s.hash_block) (is_count s.blocks) a.0 in
@@ -62,6 +64,10 @@ bounds s h =
       narrow = fan.1;
       low = at_most_seven (fanout s) s.blocks (levels s) fan.0 few (levels_stand_lem (fanout s) s.blocks (omega (arith, fan.0))).1;
     }
+
+-- and so every geometry's
+pub bounds_of : (g : Geometry) → Bounds (shape_of g)
+bounds_of g = bounds (shape_of g) g.limits
 
 -- no tree block comes before the top level, and none before a level that is not there
 pub start_none : (s : Shape) (j : ℕ) → levels s ≤ suc j → 0 ≡ start s j

@@ -31,6 +31,7 @@ impl Spread {
     }
 
     // The blocks `steps` steps above the data.
+    #[tactic(auto, using(crate::proofs::Counting::rounded_le), unfolding(tree::specs::Shape::width))]
     pub(crate) fn width(self, steps: u32) -> usize
         requires { steps ≤ 7 }
         ensures value { (s : Shape) → fanout_of s ≡ self.fanout → s.blocks ≡ self.blocks → result ≡ width_of s steps }

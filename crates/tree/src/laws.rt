@@ -2,43 +2,31 @@
 ghost use Rattle.tree.specs.Laws.{Cases, LevelsStand, PathsStand, PlacesStand, SlotsStand, TreeBinds};
 
 // There are enough levels for every block, and no more than that.
-pub fn levels_stand() -> u8
+pub fn levels_stand()
     ensures { LevelsStand }
-{
-    0
-}
+{}
 
 // Each slot holds the salted digest of the block below it, and nothing else stands in a tree block.
-pub fn slots_stand() -> u8
+pub fn slots_stand()
     ensures { SlotsStand }
-{
-    0
-}
+{}
 
 // The tree is its blocks, the top level first, each at its place.
-pub fn places_stand() -> u8
+pub fn places_stand()
     ensures { PlacesStand }
-{
-    0
-}
+{}
 
 // Following the slots from the root leads to every data block.
-pub fn paths_stand() -> u8
+pub fn paths_stand()
     ensures { PathsStand }
-{
-    0
-}
+{}
 
 // Two images of one length with one root are equal, or two different blocks have one salted digest.
-pub fn tree_binds() -> u8
+pub fn tree_binds()
     ensures { TreeBinds }
-{
-    0
-}
+{}
 
 // Trees over 1, 128 and 129 data blocks.
-pub fn cases_stand() -> u8
+pub fn cases_stand()
     ensures { Cases }
-{
-    0
-}
+{}

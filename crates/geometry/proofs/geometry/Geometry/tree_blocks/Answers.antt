@@ -1,7 +1,7 @@
 use Rattle.std.proofs.Common.{◌≡◌, ◌+◌, sym, ◌∙◌, ap₂, arith}
 use Rattle.tree.specs.Shape.{tree_blocks}
 use Rattle.geometry.specs.Of.{shape_of}
-use Rattle.geometry.proofs.Bounds.{bounds, tree_bound, blocks_none, blocks_some}
+use Rattle.geometry.proofs.Bounds.{bounds_of, tree_bound, blocks_none, blocks_some}
 use Rattle.geometry.proofs.geometry.Geometry.tree_blocks.Goals as goal
 
 -- both parts together
@@ -14,7 +14,7 @@ sum c =
 pub overflow_add-result : goal.overflow_add-result
 overflow_add-result c =
     let g = c.args.self.now in
-    record { fits = omega (arith, sum c, tree_bound (shape_of g) (bounds (shape_of g) g.limits)) }
+    record { fits = omega (arith, sum c, tree_bound (shape_of g) (bounds_of g)) }
 
 pub returns-then-self-eq0 : goal.returns-then-self-eq0
 returns-then-self-eq0 c =
