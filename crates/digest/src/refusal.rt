@@ -7,16 +7,14 @@ use std::fmt;
 #[derive(Clone, Copy, PartialEq, Eq, Debug)]
 pub enum Refusal {
     // The buffer has not the digest's length, or the joined string is above the limit.
-    Length,
+    Length = 3,
 }
 
 impl Refusal {
     pub fn number(self) -> u8
         ensures { result ≡ number_of self }
     {
-        match self {
-            Refusal::Length => 3,
-        }
+        self as u8
     }
 }
 

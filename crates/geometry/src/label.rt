@@ -16,5 +16,5 @@ pub struct Label<'a> {
 #[derive(Clone, Copy, PartialEq, Eq, Debug)]
 pub enum LabelFault {
     // A value outside its limit, another digest's number, or a root of another length.
-    Limit,
+    Limit = 2,
 }
