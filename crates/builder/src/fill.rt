@@ -11,7 +11,7 @@ use geometry::Geometry;
 // The digest of the salt followed by a block.
 fn salted<D: Digest>(digest: &D, salt: &[u8], block: &[u8], out: &mut [u8])
     requires short { length salt.now + length block.now ≤ 4352 }
-    requires room { length out.old ≡ D.size }
+    requires room { length out.old ≡ D.LEN }
     ensures { out.new ≡ D.meaning (salt.now ++ block.now) }
 {
     let _ = digest.digest(salt, block, out);
@@ -28,9 +28,9 @@ pub(crate) fn digest_node<D: Digest>(
     j: usize,
     out: &mut [u8],
 )
-    requires ready { Ready D.size (shape_of g.now) image.now salt.now }
+    requires ready { Ready D.LEN (shape_of g.now) image.now salt.now }
     requires inside { Inside (shape_of g.now) image.now tree.now i j }
-    requires room { length out.old ≡ D.size }
+    requires room { length out.old ≡ D.LEN }
     ensures { out.new ≡ salted_by D.meaning salt.now (below (shape_of g.now) image.now tree.now i j) }
 {
     if i == 0 {
@@ -62,11 +62,11 @@ fn fill_slot<D: Digest>(
     j: usize,
     scratch: &mut [u8],
 )
-    requires ready { Ready D.size (shape_of g.now) image.now salt.now }
+    requires ready { Ready D.LEN (shape_of g.now) image.now salt.now }
     requires low { i < levels_of (shape_of g.now) }
     requires there { j < width_of (shape_of g.now) i }
     requires before { tree.old ≡ partly (salted_by D.meaning salt.now) (shape_of g.now) image.now i j }
-    requires room { length scratch.old ≡ D.size }
+    requires room { length scratch.old ≡ D.LEN }
     ensures { tree.new ≡ partly (salted_by D.meaning salt.now) (shape_of g.now) image.now i (j + 1) }
 {
     digest_node(digest, g, image, salt, tree, i, j, scratch);
@@ -83,10 +83,10 @@ fn fill_level<D: Digest>(
     i: usize,
     scratch: &mut [u8],
 )
-    requires ready { Ready D.size (shape_of g.now) image.now salt.now }
+    requires ready { Ready D.LEN (shape_of g.now) image.now salt.now }
     requires low { i < levels_of (shape_of g.now) }
     requires before { tree.old ≡ stage (salted_by D.meaning salt.now) (shape_of g.now) image.now i }
-    requires room { length scratch.old ≡ D.size }
+    requires room { length scratch.old ≡ D.LEN }
     ensures { tree.new ≡ stage (salted_by D.meaning salt.now) (shape_of g.now) image.now (i + 1) }
 {
     for j in 0..g.width(i) {
@@ -103,9 +103,9 @@ pub(crate) fn fill_tree<D: Digest>(
     tree: &mut [u8],
     scratch: &mut [u8],
 )
-    requires ready { Ready D.size (shape_of g.now) image.now salt.now }
+    requires ready { Ready D.LEN (shape_of g.now) image.now salt.now }
     requires whole { length tree.old ≡ tree_blocks_of (shape_of g.now) * (shape_of g.now).hash_block }
-    requires room { length scratch.old ≡ D.size }
+    requires room { length scratch.old ≡ D.LEN }
     ensures { tree.new ≡ tree_of (salted_by D.meaning salt.now) (shape_of g.now) image.now }
 {
     tree.fill(0);

@@ -17,9 +17,9 @@ pub fn build<D: Digest>(
     tree: &mut [u8],
     root: &mut [u8],
 ) -> Result<(), BuildFault>
-    ensures answer { result ≡ answer_of D.size data_block hash_block image.now salt.now tree.old root.old }
-    ensures tree { tree.new ≡ tree_after D.size D.meaning data_block hash_block image.now salt.now tree.old root.old }
-    ensures root { root.new ≡ root_after D.size D.meaning data_block hash_block image.now salt.now tree.old root.old }
+    ensures answer { result ≡ answer_of D.LEN data_block hash_block image.now salt.now tree.old root.old }
+    ensures tree { tree.new ≡ tree_after D.LEN D.meaning data_block hash_block image.now salt.now tree.old root.old }
+    ensures root { root.new ≡ root_after D.LEN D.meaning data_block hash_block image.now salt.now tree.old root.old }
 {
     match check(
         digest.output_len(),

@@ -43,7 +43,7 @@ pub record Bounds (s : Shape) : Type 0 where
   pub narrow : fanout s ≤ 128
   pub low : levels s ≤ 7
 
-bounds : (s : Shape) → within s ≡ true → Bounds s
+pub bounds : (s : Shape) → within s ≡ true → Bounds s
 bounds s h =
     let a = and_parts (is_block_size s.data_block && is_block_size s.hash_block && is_count s.blocks) (is_slot s.slot) h in
     let b = and_parts (is_block_size s.data_block && is_block_size s.hash_block) (is_count s.blocks) a.0 in

@@ -11,13 +11,13 @@ pub loop-j-init : goal.loop-j-init
 loop-j-init g c =
     let s = shape_of c.args.g.now in
     let h = salted g.D.Digest.meaning c.args.salt.now in
-    let sound = sound_salted g.D.Digest.meaning c.args.salt.now s g.D.Digest.size g.met.D.Digest.lengths c.args.g.now.limits c.requires.ready.slots in
-    c.requires.before ∙ level_none h s g.D.Digest.size sound c.args.image.now c.args.i c.requires.low
+    let sound = sound_salted g.D.Digest.meaning c.args.salt.now s g.D.Digest.LEN g.met.D.Digest.lengths c.args.g.now.limits c.requires.ready.slots in
+    c.requires.before ∙ level_none h s g.D.Digest.LEN sound c.args.image.now c.args.i c.requires.low
 
 pub returns : goal.returns
 returns g c =
     let s = shape_of c.args.g.now in
     let h = salted g.D.Digest.meaning c.args.salt.now in
-    let sound = sound_salted g.D.Digest.meaning c.args.salt.now s g.D.Digest.size g.met.D.Digest.lengths c.args.g.now.limits c.requires.ready.slots in
+    let sound = sound_salted g.D.Digest.meaning c.args.salt.now s g.D.Digest.LEN g.met.D.Digest.lengths c.args.g.now.limits c.requires.ready.slots in
     let all : c.loop-j.j ≡ width s c.args.i = omega (arith, c.width-j-end.ensures) in
-    c.loop-j.invariant ∙ ap (partly h s c.args.image.now c.args.i) all ∙ level_all h s g.D.Digest.size sound c.args.image.now c.args.i
+    c.loop-j.invariant ∙ ap (partly h s c.args.image.now c.args.i) all ∙ level_all h s g.D.Digest.LEN sound c.args.image.now c.args.i

@@ -11,10 +11,10 @@ digest_node-requires g c =
     let s = shape_of c.args.g.now in
     let h = salted g.D.Digest.meaning c.args.salt.now in
     let ready = c.requires.ready in
-    let sound = sound_salted g.D.Digest.meaning c.args.salt.now s g.D.Digest.size g.met.D.Digest.lengths c.args.g.now.limits ready.slots in
+    let sound = sound_salted g.D.Digest.meaning c.args.salt.now s g.D.Digest.LEN g.met.D.Digest.lengths c.args.g.now.limits ready.slots in
     record {
       ready = ready;
-      inside = partly_inside h s g.D.Digest.size sound c.args.image.now c.args.i c.args.j c.args.tree.now c.requires.before ready.whole c.requires.low c.requires.there;
+      inside = partly_inside h s g.D.Digest.LEN sound c.args.image.now c.args.i c.args.j c.args.tree.now c.requires.before ready.whole c.requires.low c.requires.there;
       room = c.requires.room;
     }
 
@@ -23,16 +23,16 @@ place : (g : _) (c : goal.After-slot g) → c.start.result * c.hash_block.result
 place g c =
     let s = shape_of c.args.g.now in
     let h = salted g.D.Digest.meaning c.args.salt.now in
-    let sound = sound_salted g.D.Digest.meaning c.args.salt.now s g.D.Digest.size g.met.D.Digest.lengths c.args.g.now.limits c.requires.ready.slots in
-    partly_place h s g.D.Digest.size sound c.args.image.now c.args.i c.args.j c.start.result c.hash_block.result c.slot.result c.args.tree.now
+    let sound = sound_salted g.D.Digest.meaning c.args.salt.now s g.D.Digest.LEN g.met.D.Digest.lengths c.args.g.now.limits c.requires.ready.slots in
+    partly_place h s g.D.Digest.LEN sound c.args.image.now c.args.i c.args.j c.start.result c.hash_block.result c.slot.result c.args.tree.now
     c.requires.before c.requires.there c.start.ensures c.hash_block.ensures c.slot.ensures
 
 pub overflow_mul-start : goal.overflow_mul-start
 overflow_mul-start g c =
     let s = shape_of c.args.g.now in
     let h = salted g.D.Digest.meaning c.args.salt.now in
-    let sound = sound_salted g.D.Digest.meaning c.args.salt.now s g.D.Digest.size g.met.D.Digest.lengths c.args.g.now.limits c.requires.ready.slots in
-    let fits = partly_place h s g.D.Digest.size sound c.args.image.now c.args.i c.args.j c.start.result c.hash_block.result s.slot c.args.tree.now
+    let sound = sound_salted g.D.Digest.meaning c.args.salt.now s g.D.Digest.LEN g.met.D.Digest.lengths c.args.g.now.limits c.requires.ready.slots in
+    let fits = partly_place h s g.D.Digest.LEN sound c.args.image.now c.args.i c.args.j c.start.result c.hash_block.result s.slot c.args.tree.now
     c.requires.before c.requires.there c.start.ensures c.hash_block.ensures refl in
     record { fits = omega (arith, fits) }
 
@@ -46,8 +46,8 @@ pub put-requires : goal.put-requires
 put-requires g c =
     let s = shape_of c.args.g.now in
     let h = salted g.D.Digest.meaning c.args.salt.now in
-    let sound = sound_salted g.D.Digest.meaning c.args.salt.now s g.D.Digest.size g.met.D.Digest.lengths c.args.g.now.limits c.requires.ready.slots in
-    let fits = partly_place h s g.D.Digest.size sound c.args.image.now c.args.i c.args.j c.start.result c.hash_block.result c.slot.result c.args.tree.now
+    let sound = sound_salted g.D.Digest.meaning c.args.salt.now s g.D.Digest.LEN g.met.D.Digest.lengths c.args.g.now.limits c.requires.ready.slots in
+    let fits = partly_place h s g.D.Digest.LEN sound c.args.image.now c.args.i c.args.j c.start.result c.hash_block.result c.slot.result c.args.tree.now
     c.requires.before c.requires.there c.start.ensures c.hash_block.ensures c.slot.ensures in
     omega (arith, fits, c.digest_node.auto.out, c.requires.room, c.requires.ready.slots)
 
@@ -56,10 +56,10 @@ returns g c =
     let s = shape_of c.args.g.now in
     let m = g.D.Digest.meaning in
     let h = salted m c.args.salt.now in
-    let sound = sound_salted m c.args.salt.now s g.D.Digest.size g.met.D.Digest.lengths c.args.g.now.limits c.requires.ready.slots in
+    let sound = sound_salted m c.args.salt.now s g.D.Digest.LEN g.met.D.Digest.lengths c.args.g.now.limits c.requires.ready.slots in
     let at = c.start.result * c.hash_block.result + c.args.j * c.slot.result in
     let here : at ≡ start s c.args.i * s.hash_block + c.args.j * s.slot =
     ap₂ (λ x y. x + c.args.j * y) (ap₂ (λ x y. x * y) c.start.ensures c.hash_block.ensures) c.slot.ensures in
     c.put.ensures
-    ∙ partly_more h s g.D.Digest.size sound c.args.image.now c.args.i c.args.j at c.args.tree.now c.digest_node.new.out c.requires.before c.requires.there here
-    (c.digest_node.ensures ∙ ap h (partly_below h s g.D.Digest.size sound c.args.image.now c.args.i c.args.j c.args.tree.now c.requires.before c.requires.low c.requires.there))
+    ∙ partly_more h s g.D.Digest.LEN sound c.args.image.now c.args.i c.args.j at c.args.tree.now c.digest_node.new.out c.requires.before c.requires.there here
+    (c.digest_node.ensures ∙ ap h (partly_below h s g.D.Digest.LEN sound c.args.image.now c.args.i c.args.j c.args.tree.now c.requires.before c.requires.low c.requires.there))

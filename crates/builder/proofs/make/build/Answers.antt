@@ -10,7 +10,7 @@ use Rattle.builder.proofs.make.build.Goals as goal
 pub fill_tree-requires : goal.fill_tree-requires
 fill_tree-requires g c =
     let n = c.output_len.result in
-    let size = g.D.Digest.size in
+    let size = g.D.Digest.LEN in
     let image = c.args.image.now in
     let salt = c.args.salt.now in
     let s = shape_of c.in-Ok.g in
@@ -25,7 +25,7 @@ pub digest_node-requires : goal.digest_node-requires
 digest_node-requires g c =
     let n = c.output_len.result in
     let m = g.D.Digest.meaning in
-    let size = g.D.Digest.size in
+    let size = g.D.Digest.LEN in
     let image = c.args.image.now in
     let salt = c.args.salt.now in
     let s = shape_of c.in-Ok.g in
@@ -43,7 +43,7 @@ pub returns-in-Ok : goal.returns-in-Ok
 returns-in-Ok g c =
     let n = c.output_len.result in
     let m = g.D.Digest.meaning in
-    let size = g.D.Digest.size in
+    let size = g.D.Digest.LEN in
     let image = c.args.image.now in
     let salt = c.args.salt.now in
     let s = shape_of c.in-Ok.g in
