@@ -3,7 +3,6 @@
 #![tactic(auto)]
 
 mod expected;
-mod function;
 mod message;
 mod split;
 mod tally;
@@ -12,10 +11,17 @@ mod tests;
 
 use anyhow::anyhow;
 use expected::{Expected, Verdict};
-use function::Function;
 use message::Message;
 use split::Split;
 use tally::Tally;
+use text::{Function, Unhashed};
+
+fn told(why: Unhashed) -> anyhow::Error {
+    match why {
+        Unhashed::Refused(_) => anyhow!("a message was refused"),
+        Unhashed::Memory(error) => error.into(),
+    }
+}
 
 // One line for each way that the message is split between the two arguments.
 fn run_message(
@@ -29,7 +35,7 @@ fn run_message(
     let bytes = message.bytes(heap)?;
     for split in Split::ALL {
         let (first, second) = split.parts(bytes.as_slice());
-        let found = function.hex(heap, first, second)?;
+        let found = function.hex(heap, first, second).map_err(told)?;
         let verdict = expected.verdict(heap, function, message, found.as_str())?;
         tally.count(verdict);
         let at = first.len();
@@ -41,7 +47,7 @@ fn run_message(
 
 fn run(rt: &HostRuntime) -> anyhow::Result<()> {
     let expected = Expected::read(rt)?;
-    let mut tally = Tally::new();
+    let mut tally = Tally::default();
     for function in Function::ALL {
         for message in Message::ALL {
             run_message(rt, &expected, function, message, &mut tally)?;

@@ -1,0 +1,8 @@
+// Digest functions by name, and bytes in hexadecimal.
+#![tactic(auto)]
+
+mod digits;
+mod function;
+
+pub use digits::{hex, unhex};
+pub use function::{Function, Unhashed, UnknownFunction};
