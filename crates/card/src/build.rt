@@ -1,4 +1,6 @@
 // The command `build`: writes the tree of an image, and prints its label in veritysetup's lines.
+ghost use Rattle.std.specs.Prelude.{◌≡◌, ℕ, ◌+◌, ◌%◌, OnOk, IsErrOf};
+
 use crate::fault::Fault;
 use crate::options::{Build, BuildOptions};
 use builder::{BuildFault, build};
@@ -29,7 +31,10 @@ struct Built {
 }
 
 // The geometry of the image's tree, with digests of `size` bytes.
-fn geometry_of(options: &BuildOptions, len: usize, size: usize) -> Result<Geometry, NoTree> {
+fn geometry_of(options: &BuildOptions, len: usize, size: usize) -> Result<Geometry, NoTree>
+    ensures whole { OnOk result (len % options.now.data_block ≡ 0) }
+    ensures padding { (wanting : ℕ) → IsErrOf result (NoTree.Padding wanting) → (len + wanting) % options.now.data_block ≡ 0 }
+{
     let data_block = options.data_block;
     if data_block == 0 || options.salt.len() > SALT_LIMIT {
         return Err(NoTree::Limits);

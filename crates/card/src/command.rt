@@ -1,4 +1,6 @@
 // What the words of the command line ask for.
+ghost use Rattle.std.specs.Prelude.{IfOk, Ok, string_bytes};
+
 use crate::fault::Fault;
 use crate::options::{Build, parse_build};
 use std::alloc::Global;
@@ -54,7 +56,7 @@ impl Command {
 
 fn parse_sum(heap: Global, mut words: Args) -> Result<Command, Fault> {
     let name = words.next().ok_or(Misuse::NoDigest)?;
-    let function = digest_named(name)?;
+    let function = spelled(name, Misuse::UnknownDigest)?;
     let files = words.collect::<Vec<String>>(heap)?;
     if files.is_empty() {
         return Err(Fault::from(Misuse::NoFile));
@@ -62,8 +64,15 @@ fn parse_sum(heap: Global, mut words: Args) -> Result<Command, Fault> {
     Ok(Command::Sum { function, files })
 }
 
-pub fn digest_named(name: String) -> Result<Function, Misuse> {
-    name.as_str()
-        .parse::<Function>()
-        .map_err(|_| Misuse::UnknownDigest(name))
+// The value that a text spells, and for any other text the misuse that it is.
+pub fn spelled<T: FromStr, F: FnOnce(String) -> Misuse + Drop>(
+    text: String,
+    misuse: F,
+) -> Result<T, Misuse>
+where
+    T::Err: Drop,
+    requires { F.IsAlwaysCallable misuse }
+    ensures { IfOk result (λ value. T.from_str_gives (string_bytes text) (Ok value)) }
+{
+    text.as_str().parse::<T>().map_err(|_| misuse(text))
 }

@@ -1,5 +1,5 @@
 // The options of `build`, under veritysetup's names and with its defaults. The salt's default is the empty one.
-use crate::command::{Misuse, digest_named};
+use crate::command::{Misuse, spelled};
 use crate::fault::Fault;
 use std::alloc::Global;
 use std::env::Args;
@@ -21,12 +21,6 @@ pub struct Build {
     pub tree: String,
 }
 
-fn number(text: String) -> Result<usize, Misuse> {
-    text.as_str()
-        .parse::<usize>()
-        .map_err(|_| Misuse::BadNumber(text))
-}
-
 fn salt_bytes(heap: Global, text: String) -> Result<Vec<u8>, Fault> {
     if text.as_str() == "-" {
         return Ok(Vec::new(heap));
@@ -41,9 +35,9 @@ impl BuildOptions {
             return Err(Fault::from(Misuse::NoValue(name)));
         };
         match name.as_str() {
-            "--hash" => self.function = digest_named(value)?,
-            "--data-block-size" => self.data_block = number(value)?,
-            "--hash-block-size" => self.hash_block = number(value)?,
+            "--hash" => self.function = spelled(value, Misuse::UnknownDigest)?,
+            "--data-block-size" => self.data_block = spelled(value, Misuse::BadNumber)?,
+            "--hash-block-size" => self.hash_block = spelled(value, Misuse::BadNumber)?,
             "--salt" => self.salt = salt_bytes(heap, value)?,
             _ => return Err(Fault::from(Misuse::UnknownOption(name))),
         }

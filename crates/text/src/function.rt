@@ -1,5 +1,5 @@
 // The digest functions that a program can name.
-ghost use Rattle.std.specs.Prelude.{◌≡◌, ◌++◌, IfOk, Some, string_bytes};
+ghost use Rattle.std.specs.Prelude.{◌≡◌, ◌+◌, ◌≤◌, ◌++◌, IfOk, OnOk, Some, length, string_bytes};
 ghost use Rattle.std.specs.Result.{result_ok};
 ghost use Rattle.text.specs.Hex.{hex_of};
 ghost use Rattle.text.specs.Name.{name_of, named};
@@ -37,7 +37,8 @@ impl Function {
 
     // The digest of `first` joined to `second`, in hexadecimal.
     pub fn hex(self, heap: Global, first: &[u8], second: &[u8]) -> Result<String, Unhashed>
-        ensures { IfOk result (λ s. string_bytes s ≡ hex_of (sum_of self (first.now ++ second.now))) }
+        ensures hex { IfOk result (λ s. string_bytes s ≡ hex_of (sum_of self (first.now ++ second.now))) }
+        ensures within { OnOk result (length first.now + length second.now ≤ 4352) }
     {
         let digest = match self {
             Function::Sha256 => digest_of(heap, &Sha256, first, second)?,
@@ -79,7 +80,8 @@ fn digest_of<D: Digest>(
     first: &[u8],
     second: &[u8],
 ) -> Result<Vec<u8>, Unhashed>
-    ensures { IfOk result (λ v. v.items ≡ D.meaning (first.now ++ second.now)) }
+    ensures value { IfOk result (λ v. v.items ≡ D.meaning (first.now ++ second.now)) }
+    ensures within { OnOk result (length first.now + length second.now ≤ 4352) }
 {
     let mut out = vec![in heap; 0u8; digest.output_len()]?;
     digest.digest(first, second, out.as_mut_slice())?;

@@ -3,6 +3,8 @@
 
 mod digits;
 mod function;
+#[cfg(test)]
+mod tests;
 
 pub use digits::{hex, unhex};
 pub use function::{Function, Unhashed, UnknownFunction};
