@@ -93,10 +93,7 @@ fn read_image(rt: &HostRuntime, name: String) -> Result<Vec<u8>, Fault> {
 
 fn print_label(rt: &HostRuntime, options: &BuildOptions, built: &Built) -> Result<(), Fault> {
     let heap = rt.alloc();
-    let function = options.function;
-    let g = &built.geometry;
-    let (blocks, tree_blocks) = (g.blocks(), g.tree_blocks());
-    let (data_block, hash_block) = (g.data_block(), g.hash_block());
+    let geometry = &built.geometry;
     let root = hex(heap, built.root.as_slice())?;
     let salt = if options.salt.is_empty() {
         String::from_str(heap, "-")?
@@ -104,11 +101,11 @@ fn print_label(rt: &HostRuntime, options: &BuildOptions, built: &Built) -> Resul
         hex(heap, options.salt.as_slice())?
     };
     println!(rt; "Hash type:       \t1")?;
-    println!(rt; "Data blocks:     \t{blocks}")?;
-    println!(rt; "Data block size: \t{data_block}")?;
-    println!(rt; "Hash blocks:     \t{tree_blocks}")?;
-    println!(rt; "Hash block size: \t{hash_block}")?;
-    println!(rt; "Hash algorithm:  \t{function}")?;
+    println!(rt; "Data blocks:     \t{}", geometry.blocks())?;
+    println!(rt; "Data block size: \t{}", geometry.data_block())?;
+    println!(rt; "Hash blocks:     \t{}", geometry.tree_blocks())?;
+    println!(rt; "Hash block size: \t{}", geometry.hash_block())?;
+    println!(rt; "Hash algorithm:  \t{}", options.function)?;
     println!(rt; "Salt:            \t{salt}")?;
     println!(rt; "Root hash:      \t{root}")?;
     Ok(())

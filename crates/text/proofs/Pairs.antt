@@ -4,7 +4,7 @@ use Rattle.std.specs.Bool.{then_some}
 use Rattle.std.specs.Option.{option_map}
 use Rattle.std.proofs.lemmas.List.{append-nil, take_rest}
 use Rattle.std.proofs.lemmas.Bool.Decides.{nat_tests}
-use Rattle.text.specs.Hex.{before, byte_of, digit_of, digit_value, hex_of, joined, two_digits, unhex_of}
+use Rattle.text.specs.Hex.{before, byte_of, digit_of, digit_value, hex_of, unhex_of}
 
 -- the first two digits, and the rest
 unhex_of-pair : (s : List ℕ) → 2 ≤ length s → unhex_of s ≡ before (byte_of (get_or s 0 0) (get_or s 1 0)) (unhex_of (drop 2 s))

@@ -1,5 +1,6 @@
 -- Bytes in hexadecimal, as ASCII codes.
-use Rattle.std.specs.Prelude.{ℕ, ◌+◌, ◌-◌, ◌*◌, ◌/◌, ◌%◌, ◌&&◌, cond, List, [], ◌∷◌, Option, Some, None, nat_lt, nat_le}
+use Rattle.std.specs.Prelude.{ℕ, ◌+◌, ◌-◌, ◌*◌, ◌/◌, ◌%◌, ◌&&◌, cond, if◌then◌else◌, List, [], ◌∷◌, Option, Some, None, nat_lt, nat_le}
+use Rattle.std.specs.Option.{option_and_then, option_map}
 use Rattle.std.specs.List.{flat_map}
 
 -- the digit of a number below 16: 0 to 9 from code 48 on, a to f from code 97 on
@@ -16,22 +17,18 @@ hex_of bytes = flat_map two_digits bytes
 -- the number that a digit stands for, in either case of letters
 abbrev pub digit_value : ℕ → Option ℕ
 digit_value c =
-    cond (nat_le 48 c && nat_le c 57) (Some (c - 48))
-    (cond (nat_le 97 c && nat_le c 102) (Some (c - 87)) (cond (nat_le 65 c && nat_le c 70) (Some (c - 55)) None))
-
-abbrev pub joined : Option ℕ → Option ℕ → Option ℕ
-joined (Some high) (Some low) = Some (high * 16 + low)
-joined (Some high) None = None
-joined None low = None
+    if nat_le 48 c && nat_le c 57 then Some (c - 48)
+    else if nat_le 97 c && nat_le c 102 then Some (c - 87)
+    else if nat_le 65 c && nat_le c 70 then Some (c - 55)
+    else None
 
 -- the byte of two digits, the upper half first
 abbrev pub byte_of : ℕ → ℕ → Option ℕ
-byte_of high low = joined (digit_value high) (digit_value low)
+byte_of high low = option_and_then (λ h. option_map (λ l. h * 16 + l) (digit_value low)) (digit_value high)
 
+-- a byte before some bytes, where all are there
 abbrev pub before : Option ℕ → Option (List ℕ) → Option (List ℕ)
-before (Some byte) (Some bytes) = Some (byte ∷ bytes)
-before (Some byte) None = None
-before None bytes = None
+before byte bytes = option_and_then (λ b. option_map (λ bs. b ∷ bs) bytes) byte
 
 -- the bytes of a text that is pairs of digits, and none of any other text
 unfoldable pub unhex_of : List ℕ → Option (List ℕ)

@@ -1,5 +1,5 @@
 -- The names of the digest functions, as ASCII codes.
-use Rattle.std.specs.Prelude.{ℕ, List, Option, Some, None, cond, codes}
+use Rattle.std.specs.Prelude.{ℕ, List, Option, Some, None, if◌then◌else◌, codes}
 use Rattle.std.specs.Str.{bytes_eq}
 use Rattle.text.specs.declared.function.Function.{Function}
 use Rattle.text.specs.declared.function.Function.TheVariants.{Sha256, Sha512}
@@ -10,4 +10,7 @@ name_of Sha512 = codes "sha512"
 
 -- the function that has this very text for its name
 abbrev pub named : List ℕ → Option Function
-named text = cond (bytes_eq text (name_of Sha256)) (Some Sha256) (cond (bytes_eq text (name_of Sha512)) (Some Sha512) None)
+named text =
+    if bytes_eq text (name_of Sha256) then Some Sha256
+    else if bytes_eq text (name_of Sha512) then Some Sha512
+    else None

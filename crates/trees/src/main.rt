@@ -40,13 +40,15 @@ fn compare(rt: &HostRuntime, card: &Card) -> anyhow::Result<bool> {
         Function::Sha256 => rebuild(rt, &Sha256, card)?,
         Function::Sha512 => rebuild(rt, &Sha512, card)?,
     };
-    let (name, data_block, hash_block) = (card.name, card.data_block, card.hash_block);
-    let salt = card.salt.len();
     if let Outcome::Refused(fault) = outcome {
-        println!(rt; "{name}: refused: {fault}")?;
+        println!(rt; "{}: refused: {fault}", card.name)?;
     }
     println!(rt;
-        "{name}: data blocks of {data_block}, tree blocks of {hash_block}, {salt} bytes of salt: tree and root {outcome}"
+        "{}: data blocks of {}, tree blocks of {}, {} bytes of salt: tree and root {outcome}",
+        card.name,
+        card.data_block,
+        card.hash_block,
+        card.salt.len()
     )?;
     Ok(outcome == Outcome::Same)
 }

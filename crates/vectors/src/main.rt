@@ -9,7 +9,7 @@ mod tally;
 #[cfg(test)]
 mod tests;
 
-use anyhow::anyhow;
+use anyhow::{anyhow, ensure};
 use expected::{Expected, Verdict};
 use message::Message;
 use split::Split;
@@ -38,9 +38,11 @@ fn run_message(
         let found = function.hex(heap, first, second).map_err(told)?;
         let verdict = expected.verdict(heap, function, message, found.as_str())?;
         tally.count(verdict);
-        let at = first.len();
-        let rest = second.len();
-        println!(rt; "{function} {message} {at}+{rest} {found} {verdict}")?;
+        println!(rt;
+            "{function} {message} {}+{} {found} {verdict}",
+            first.len(),
+            second.len()
+        )?;
     }
     Ok(())
 }
@@ -54,11 +56,8 @@ fn run(rt: &HostRuntime) -> anyhow::Result<()> {
         }
     }
     rt.println(&tally)?;
-    if tally.all_right() {
-        Ok(())
-    } else {
-        Err(anyhow!("a digest is wrong"))
-    }
+    ensure!(tally.all_right(), "a digest is wrong");
+    Ok(())
 }
 
 fn main(rt: HostRuntime) -> anyhow::Result<()> {
