@@ -35,13 +35,12 @@ fn geometry_of(options: &BuildOptions, len: usize, size: usize) -> Result<Geomet
     ensures whole { OnOk result (len % options.now.data_block ≡ 0) }
     ensures padding { (wanting : ℕ) → IsErrOf result (NoTree.Padding wanting) → (len + wanting) % options.now.data_block ≡ 0 }
 {
-    let data_block = options.data_block;
+    let (data_block, hash_block) = (options.data_block, options.hash_block);
     if data_block == 0 || options.salt.len() > SALT_LIMIT {
         return Err(NoTree::Limits);
     }
-    let geometry = Geometry::new(data_block, options.hash_block, len / data_block, size).ok_or(
-        NoTree::Limits,
-    )?;
+    let blocks = len / data_block;
+    let geometry = Geometry::new(data_block, hash_block, blocks, size).ok_or(NoTree::Limits)?;
     match len % data_block {
         0 => Ok(geometry),
         over => Err(NoTree::Padding(data_block - over)),
