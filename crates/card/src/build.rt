@@ -1,37 +1,25 @@
 // The command `build`: writes the tree of an image, and prints its label in veritysetup's lines.
-use crate::command::Misuse;
+ghost use Rattle.std.specs.Prelude.{◌≡◌, ℕ, ◌+◌, ◌%◌, OnOk, IsErrOf};
+
 use crate::fault::Fault;
-use crate::function::Function;
-use crate::hex::hex;
-use crate::options::BuildOptions;
+use crate::options::{Build, BuildOptions};
 use builder::{BuildFault, build};
 use digest::{Digest, Sha256, Sha512};
 use geometry::{Geometry, SALT_LIMIT};
-use std::{fmt, fs};
+use std::fs;
+use text::{Function, hex};
+use thiserror::Error;
 
 // Why there is no tree.
-#[derive(Drop)]
+#[derive(Debug, Drop, Error)]
 pub enum NoTree {
+    #[error("a block size is none of 512, 1024, 2048 and 4096, the image has no data block or more than 1048576, or the salt is longer than 256 bytes")]
     Limits,
     // So many bytes are wanting of a whole last block.
+    #[error("the image's last data block lacks {0} bytes: pad the image first")]
     Padding(usize),
+    #[error("refused: {0}")]
     Refused(BuildFault),
-}
-
-impl fmt::Display for NoTree {
-    fn fmt<W: fmt::Write>(&self, f: &mut fmt::Formatter<W>) -> fmt::Result {
-        match self {
-            NoTree::Limits => write!(
-                f,
-                "a block size is none of 512, 1024, 2048 and 4096, the image has no data block or more than 1048576, or the salt is longer than 256 bytes"
-            ),
-            NoTree::Padding(bytes) => write!(
-                f,
-                "the image's last data block lacks {bytes} bytes: pad the image first"
-            ),
-            NoTree::Refused(fault) => write!(f, "refused: {fault}"),
-        }
-    }
 }
 
 // What is to be printed and written.
@@ -43,20 +31,20 @@ struct Built {
 }
 
 // The geometry of the image's tree, with digests of `size` bytes.
-fn geometry_of(options: &BuildOptions, len: usize, size: usize) -> Result<Geometry, NoTree> {
-    let data_block = options.data_block;
+fn geometry_of(options: &BuildOptions, len: usize, size: usize) -> Result<Geometry, NoTree>
+    ensures whole { OnOk result (len % options.now.data_block ≡ 0) }
+    ensures padding { (wanting : ℕ) → IsErrOf result (NoTree.Padding wanting) → (len + wanting) % options.now.data_block ≡ 0 }
+{
+    let (data_block, hash_block) = (options.data_block, options.hash_block);
     if data_block == 0 || options.salt.len() > SALT_LIMIT {
         return Err(NoTree::Limits);
     }
-    let Some(geometry) = Geometry::new(data_block, options.hash_block, len / data_block, size)
-    else {
-        return Err(NoTree::Limits);
-    };
-    let over = len % data_block;
-    if over != 0 {
-        return Err(NoTree::Padding(data_block - over));
+    let blocks = len / data_block;
+    let geometry = Geometry::new(data_block, hash_block, blocks, size).ok_or(NoTree::Limits)?;
+    match len % data_block {
+        0 => Ok(geometry),
+        over => Err(NoTree::Padding(data_block - over)),
     }
-    Ok(geometry)
 }
 
 fn make<D: Digest>(
@@ -70,54 +58,41 @@ fn make<D: Digest>(
     let geometry = geometry_of(options, image.len(), size)?;
     let mut tree = vec![in heap; 0u8; geometry.tree_len()]?;
     let mut root = vec![in heap; 0u8; size]?;
-    let (data_block, hash_block) = (options.data_block, options.hash_block);
-    let salt = options.salt.as_slice();
-    match build(
+    build(
         digest,
         image,
-        data_block,
-        hash_block,
-        salt,
+        options.data_block,
+        options.hash_block,
+        options.salt.as_slice(),
         tree.as_mut_slice(),
         root.as_mut_slice(),
-    ) {
-        Ok(()) => Ok(Built {
-            geometry,
-            tree,
-            root,
-        }),
-        Err(fault) => Err(Fault::Tree(NoTree::Refused(fault))),
-    }
+    )
+    .map_err(NoTree::Refused)?;
+    Ok(Built {
+        geometry,
+        tree,
+        root,
+    })
 }
 
 // Writes the tree beside its place first, so that no half of it is left under its name.
 fn write_tree(rt: &HostRuntime, name: &str, tree: &[u8]) -> Result<(), Fault> {
     let part = format!(in rt.alloc(); "{name}.part")?;
-    match fs::write(rt, part.as_str(), tree) {
-        Ok(()) => {
-            fs::rename(rt, part.as_str(), name)?;
-            Ok(())
-        }
-        Err(error) => {
-            let _ = fs::remove_file(rt, part.as_str());
-            Err(Fault::File(part, error))
-        }
+    if let Err(error) = fs::write(rt, part.as_str(), tree) {
+        let _ = fs::remove_file(rt, part.as_str());
+        return Err(Fault::File(part, error));
     }
+    fs::rename(rt, part.as_str(), name)?;
+    Ok(())
 }
 
-fn read_image(rt: &HostRuntime, name: &str) -> Result<Vec<u8>, Fault> {
-    match fs::read(rt, name) {
-        Ok(image) => Ok(image),
-        Err(error) => Err(Fault::File(String::from_str(rt.alloc(), name)?, error)),
-    }
+fn read_image(rt: &HostRuntime, name: String) -> Result<Vec<u8>, Fault> {
+    fs::read(rt, name.as_str()).map_err(|error| Fault::File(name, error))
 }
 
 fn print_label(rt: &HostRuntime, options: &BuildOptions, built: &Built) -> Result<(), Fault> {
     let heap = rt.alloc();
-    let function = options.function;
-    let g = &built.geometry;
-    let (blocks, tree_blocks) = (g.blocks(), g.tree_blocks());
-    let (data_block, hash_block) = (g.data_block(), g.hash_block());
+    let geometry = &built.geometry;
     let root = hex(heap, built.root.as_slice())?;
     let salt = if options.salt.is_empty() {
         String::from_str(heap, "-")?
@@ -125,26 +100,23 @@ fn print_label(rt: &HostRuntime, options: &BuildOptions, built: &Built) -> Resul
         hex(heap, options.salt.as_slice())?
     };
     println!(rt; "Hash type:       \t1")?;
-    println!(rt; "Data blocks:     \t{blocks}")?;
-    println!(rt; "Data block size: \t{data_block}")?;
-    println!(rt; "Hash blocks:     \t{tree_blocks}")?;
-    println!(rt; "Hash block size: \t{hash_block}")?;
-    println!(rt; "Hash algorithm:  \t{function}")?;
+    println!(rt; "Data blocks:     \t{}", geometry.blocks())?;
+    println!(rt; "Data block size: \t{}", geometry.data_block())?;
+    println!(rt; "Hash blocks:     \t{}", geometry.tree_blocks())?;
+    println!(rt; "Hash block size: \t{}", geometry.hash_block())?;
+    println!(rt; "Hash algorithm:  \t{}", options.function)?;
     println!(rt; "Salt:            \t{salt}")?;
     println!(rt; "Root hash:      \t{root}")?;
     Ok(())
 }
 
-pub fn build_tree(rt: &HostRuntime, options: BuildOptions) -> Result<(), Fault> {
-    let function = options.function;
-    let [image_name, tree_name] = options.files.as_slice() else {
-        return Err(Fault::Misuse(Misuse::TwoFiles));
-    };
-    let image = read_image(rt, image_name.as_str())?;
-    let made = match function {
+pub fn build_tree(rt: &HostRuntime, asked: Build) -> Result<(), Fault> {
+    let options = asked.options;
+    let image = read_image(rt, asked.image)?;
+    let made = match options.function {
         Function::Sha256 => make(rt, &Sha256, &options, image.as_slice())?,
         Function::Sha512 => make(rt, &Sha512, &options, image.as_slice())?,
     };
-    write_tree(rt, tree_name.as_str(), made.tree.as_slice())?;
+    write_tree(rt, asked.tree.as_str(), made.tree.as_slice())?;
     print_label(rt, &options, &made)
 }

@@ -1,10 +1,13 @@
 // What the words of the command line ask for.
+ghost use Rattle.std.specs.Prelude.{IfOk, Ok, string_bytes};
+
 use crate::fault::Fault;
-use crate::function::Function;
-use crate::options::{BuildOptions, parse_build};
+use crate::options::{Build, parse_build};
 use std::alloc::Global;
 use std::env::Args;
-use std::fmt;
+use std::str::FromStr;
+use text::Function;
+use thiserror::Error;
 
 #[derive(Drop)]
 pub enum Command {
@@ -12,64 +15,64 @@ pub enum Command {
         function: Function,
         files: Vec<String>,
     },
-    Build(BuildOptions),
+    Build(Build),
 }
 
-#[derive(Drop)]
+#[derive(Debug, Drop, Error)]
 pub enum Misuse {
+    #[error("no command")]
     NoCommand,
+    #[error("unknown command: {0}")]
     UnknownCommand(String),
+    #[error("no digest is named")]
     NoDigest,
+    #[error("unknown digest: {0}")]
     UnknownDigest(String),
+    #[error("no file is named")]
     NoFile,
+    #[error("unknown option: {0}")]
     UnknownOption(String),
+    #[error("no value after {0}")]
     NoValue(String),
+    #[error("not a number: {0}")]
     BadNumber(String),
+    #[error("not a salt in hexadecimal: {0}")]
     BadSalt(String),
+    #[error("build takes an image and a tree")]
     TwoFiles,
 }
 
 impl Command {
     // `words` are those after the program's own name.
     pub fn parse(heap: Global, mut words: Args) -> Result<Command, Fault> {
-        let Some(name) = words.next() else {
-            return Err(Fault::Misuse(Misuse::NoCommand));
-        };
+        let name = words.next().ok_or(Misuse::NoCommand)?;
         match name.as_str() {
             "sum" => parse_sum(heap, words),
             "build" => Ok(Command::Build(parse_build(heap, words)?)),
-            _ => Err(Fault::Misuse(Misuse::UnknownCommand(name))),
+            _ => Err(Fault::from(Misuse::UnknownCommand(name))),
         }
     }
 }
 
 fn parse_sum(heap: Global, mut words: Args) -> Result<Command, Fault> {
-    let Some(name) = words.next() else {
-        return Err(Fault::Misuse(Misuse::NoDigest));
-    };
-    let Some(function) = Function::named(name.as_str()) else {
-        return Err(Fault::Misuse(Misuse::UnknownDigest(name)));
-    };
+    let name = words.next().ok_or(Misuse::NoDigest)?;
+    let function = spelled(name, Misuse::UnknownDigest)?;
     let files = words.collect::<Vec<String>>(heap)?;
     if files.is_empty() {
-        return Err(Fault::Misuse(Misuse::NoFile));
+        return Err(Fault::from(Misuse::NoFile));
     }
     Ok(Command::Sum { function, files })
 }
 
-impl fmt::Display for Misuse {
-    fn fmt<W: fmt::Write>(&self, f: &mut fmt::Formatter<W>) -> fmt::Result {
-        match self {
-            Misuse::NoCommand => write!(f, "no command"),
-            Misuse::UnknownCommand(name) => write!(f, "unknown command: {name}"),
-            Misuse::NoDigest => write!(f, "no digest is named"),
-            Misuse::UnknownDigest(name) => write!(f, "unknown digest: {name}"),
-            Misuse::NoFile => write!(f, "no file is named"),
-            Misuse::UnknownOption(name) => write!(f, "unknown option: {name}"),
-            Misuse::NoValue(name) => write!(f, "no value after {name}"),
-            Misuse::BadNumber(text) => write!(f, "not a number: {text}"),
-            Misuse::BadSalt(text) => write!(f, "not a salt in hexadecimal: {text}"),
-            Misuse::TwoFiles => write!(f, "build takes an image and a tree"),
-        }
-    }
+// The value that a text spells, and for any other text the misuse that it is.
+pub fn spelled<T: FromStr, F: FnOnce(String) -> Misuse + Drop>(
+    text: String,
+    misuse: F,
+) -> Result<T, Misuse>
+where
+    T::Err: Drop,
+    requires { F.IsAlwaysCallable misuse }
+    ensures { IfOk result (λ value. T.from_str_gives (string_bytes text) (Ok value)) }
+{
+    text.as_str().parse::<T>().map_err(|_| misuse(text))
 }

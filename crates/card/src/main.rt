@@ -4,9 +4,6 @@
 mod build;
 mod command;
 mod fault;
-mod file;
-mod function;
-mod hex;
 mod options;
 mod sum;
 
@@ -20,7 +17,7 @@ fn run(rt: &HostRuntime) -> Result<(), Fault> {
     let _program = words.next();
     match Command::parse(rt.alloc(), words)? {
         Command::Sum { function, files } => sum::print_sums(rt, function, files.as_slice()),
-        Command::Build(options) => build::build_tree(rt, options),
+        Command::Build(asked) => build::build_tree(rt, asked),
     }
 }
 

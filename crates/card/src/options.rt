@@ -1,10 +1,9 @@
 // The options of `build`, under veritysetup's names and with its defaults. The salt's default is the empty one.
-use crate::command::Misuse;
+use crate::command::{Misuse, spelled};
 use crate::fault::Fault;
-use crate::function::Function;
-use crate::hex::unhex;
 use std::alloc::Global;
 use std::env::Args;
+use text::{Function, unhex};
 
 #[derive(Drop)]
 pub struct BuildOptions {
@@ -12,73 +11,63 @@ pub struct BuildOptions {
     pub data_block: usize,
     pub hash_block: usize,
     pub salt: Vec<u8>,
-    // The image, and where the tree goes.
-    pub files: Vec<String>,
 }
 
-fn digest_named(text: String) -> Result<Function, Misuse> {
-    match Function::named(text.as_str()) {
-        Some(function) => Ok(function),
-        None => Err(Misuse::UnknownDigest(text)),
-    }
-}
-
-fn number(text: String) -> Result<usize, Misuse> {
-    match text.as_str().parse::<usize>() {
-        Ok(n) => Ok(n),
-        Err(_) => Err(Misuse::BadNumber(text)),
-    }
+// A tree to build, and the names of the image and of the tree's file.
+#[derive(Drop)]
+pub struct Build {
+    pub options: BuildOptions,
+    pub image: String,
+    pub tree: String,
 }
 
 fn salt_bytes(heap: Global, text: String) -> Result<Vec<u8>, Fault> {
     if text.as_str() == "-" {
         return Ok(Vec::new(heap));
     }
-    match unhex(heap, text.as_bytes())? {
-        Some(salt) => Ok(salt),
-        None => Err(Fault::Misuse(Misuse::BadSalt(text))),
-    }
+    Ok(unhex(heap, text.as_bytes())?.ok_or(Misuse::BadSalt(text))?)
 }
 
 impl BuildOptions {
     // Takes an option and its value.
     fn set(&mut self, heap: Global, name: String, value: Option<String>) -> Result<(), Fault> {
         let Some(value) = value else {
-            return Err(Fault::Misuse(Misuse::NoValue(name)));
+            return Err(Fault::from(Misuse::NoValue(name)));
         };
         match name.as_str() {
-            "--hash" => self.function = digest_named(value)?,
-            "--data-block-size" => self.data_block = number(value)?,
-            "--hash-block-size" => self.hash_block = number(value)?,
+            "--hash" => self.function = spelled(value, Misuse::UnknownDigest)?,
+            "--data-block-size" => self.data_block = spelled(value, Misuse::BadNumber)?,
+            "--hash-block-size" => self.hash_block = spelled(value, Misuse::BadNumber)?,
             "--salt" => self.salt = salt_bytes(heap, value)?,
-            _ => return Err(Fault::Misuse(Misuse::UnknownOption(name))),
+            _ => return Err(Fault::from(Misuse::UnknownOption(name))),
         }
         Ok(())
     }
 }
 
-pub fn parse_build(heap: Global, mut words: Args) -> Result<BuildOptions, Fault> {
+pub fn parse_build(heap: Global, mut words: Args) -> Result<Build, Fault> {
     let mut options = BuildOptions {
         function: Function::Sha256,
         data_block: 4096,
         hash_block: 4096,
         salt: Vec::new(heap),
-        files: Vec::new(heap),
     };
-    for _ in 0..u64::MAX {
-        let Some(word) = words.next() else {
-            break;
-        };
+    let mut files = Vec::new(heap);
+    while let Some(word) = words.next() {
         if word.as_str().starts_with("--") {
             let value = words.next();
             options.set(heap, word, value)?;
         } else {
-            options.files.push(word)?;
+            files.push(word)?;
         }
     }
-    if options.files.len() == 2 {
-        Ok(options)
-    } else {
-        Err(Fault::Misuse(Misuse::TwoFiles))
+    let mut files = files.into_iter();
+    match (files.next(), files.next(), files.next()) {
+        (Some(image), Some(tree), None) => Ok(Build {
+            options,
+            image,
+            tree,
+        }),
+        _ => Err(Fault::from(Misuse::TwoFiles)),
     }
 }

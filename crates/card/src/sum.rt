@@ -1,60 +1,62 @@
 // The command `sum`: a line for each file, with its digest and its name.
+ghost use Rattle.std.specs.Prelude.{◌≤◌, IfOk, length};
+
 use crate::fault::Fault;
-use crate::file::{self, Unread};
-use crate::function::{Function, Unhashed};
-use digest::Refusal;
-use std::alloc::AllocError;
-use std::fmt;
+use digest::LIMIT;
+use std::fs::File;
+use std::io;
+use std::io::Read;
+use text::{Function, Unhashed};
+use thiserror::Error;
 
 // Why a file has no sum.
-#[derive(Drop)]
+#[derive(Debug, Drop, Error)]
 enum NoSum {
-    File(Unread),
-    Digest(Refusal),
-    Memory(AllocError),
+    #[error("too long: {0} bytes, where the limit is {limit}", limit = LIMIT)]
+    TooLong(u64),
+    // Longer than the limit, and of no known length.
+    #[error("too long: more than the limit of {limit} bytes", limit = LIMIT)]
+    Endless,
+    #[error(transparent)]
+    Io(#[from] io::Error),
+    #[error(transparent)]
+    Unhashed(#[from] Unhashed),
 }
 
-impl From<Unread> for NoSum {
-    fn from(unread: Unread) -> NoSum {
-        NoSum::File(unread)
-    }
-}
-
-impl From<Unhashed> for NoSum {
-    fn from(unhashed: Unhashed) -> NoSum {
-        match unhashed {
-            Unhashed::Refused(refusal) => NoSum::Digest(refusal),
-            Unhashed::Memory(error) => NoSum::Memory(error),
-        }
-    }
-}
-
-impl fmt::Display for NoSum {
-    fn fmt<W: fmt::Write>(&self, f: &mut fmt::Formatter<W>) -> fmt::Result {
-        match self {
-            NoSum::File(unread) => write!(f, "{unread}"),
-            NoSum::Digest(Refusal::Length) => write!(f, "refused for its length"),
-            NoSum::Memory(error) => write!(f, "{error}"),
-        }
+// A file that is no longer than a digest takes. Reads at most one byte above the limit, so that one with
+// no end is refused too.
+fn read_whole(rt: &HostRuntime, name: &str) -> Result<Vec<u8>, NoSum>
+    ensures { IfOk result (λ bytes. length bytes.items ≤ 4352) }
+{
+    let file = File::open(rt, name)?;
+    let meta = file.metadata()?;
+    let mut bytes = Vec::new(rt.alloc());
+    file.take(LIMIT as u64 + 1).read_to_end(&mut bytes)?;
+    if bytes.len() <= LIMIT {
+        Ok(bytes)
+    } else if meta.is_file() && meta.len() > LIMIT as u64 {
+        Err(NoSum::TooLong(meta.len()))
+    } else {
+        Err(NoSum::Endless)
     }
 }
 
 fn sum(rt: &HostRuntime, function: Function, name: &str) -> Result<String, NoSum> {
-    let bytes = file::read_whole(rt, name)?;
-    Ok(function.hex(rt.alloc(), bytes.as_slice())?)
+    let bytes = read_whole(rt, name)?;
+    Ok(function.hex(rt.alloc(), bytes.as_slice(), b"")?)
 }
 
 // Prints the sum of each file that has one, and for each other file a line on standard error.
 pub fn print_sums(rt: &HostRuntime, function: Function, files: &[String]) -> Result<(), Fault> {
-    let mut all = true;
+    let mut outcome = Ok(());
     for name in files {
         match sum(rt, function, name.as_str()) {
             Ok(hex) => println!(rt; "{hex}  {name}")?,
             Err(why) => {
-                all = false;
-                eprintln!(rt; "card: {name}: {why}")?
+                eprintln!(rt; "card: {name}: {why}")?;
+                outcome = Err(Fault::Files);
             }
         }
     }
-    if all { Ok(()) } else { Err(Fault::Files) }
+    outcome
 }

@@ -2,68 +2,64 @@
 #![tactic(auto)]
 
 mod card;
+mod outcome;
 
-use anyhow::anyhow;
+use anyhow::ensure;
 use builder::build;
-use card::{Card, Function};
+use card::Card;
 use digest::{Digest, Sha256, Sha512};
+use outcome::Outcome;
 use std::fs;
+use text::Function;
 
-// Whether the tree and the root come out as they were.
-fn rebuild<D: Digest>(rt: &HostRuntime, digest: &D, card: Card) -> anyhow::Result<bool> {
+fn rebuild<D: Digest>(rt: &HostRuntime, digest: &D, card: &Card) -> anyhow::Result<Outcome> {
     let heap = rt.alloc();
-    let name = card.name();
+    let name = card.name;
     let image = fs::read(rt, format!(in heap; "{name}.image")?)?;
     let made = fs::read(rt, format!(in heap; "{name}.tree")?)?;
     let mut tree = vec![in heap; 0u8; made.len()]?;
     let mut root = vec![in heap; 0u8; digest.output_len()]?;
-    let (data_block, hash_block) = card.sizes();
-    match build(
+    let built = build(
         digest,
         image.as_slice(),
-        data_block,
-        hash_block,
-        card.salt(),
+        card.data_block,
+        card.hash_block,
+        card.salt,
         tree.as_mut_slice(),
         root.as_mut_slice(),
-    ) {
-        Ok(()) => Ok(tree.as_slice() == made.as_slice() && root.as_slice() == card.root()),
-        Err(fault) => {
-            println!(rt; "{name}: refused: {fault}")?;
-            Ok(false)
-        }
-    }
+    );
+    Ok(match built {
+        Ok(()) => Outcome::of(tree.as_slice(), made.as_slice(), root.as_slice(), card.root),
+        Err(fault) => Outcome::Refused(fault),
+    })
 }
 
-fn compare(rt: &HostRuntime, card: Card) -> anyhow::Result<bool> {
-    let same = match card.function() {
+// Prints what became of the card's tree and root; whether they are as they were.
+fn compare(rt: &HostRuntime, card: &Card) -> anyhow::Result<bool> {
+    let outcome = match card.function {
         Function::Sha256 => rebuild(rt, &Sha256, card)?,
         Function::Sha512 => rebuild(rt, &Sha512, card)?,
     };
-    let name = card.name();
-    let (data_block, hash_block) = card.sizes();
-    let salt = card.salt().len();
-    let verdict = if same {
-        "as veritysetup made them"
-    } else {
-        "NOT as veritysetup made them"
-    };
+    if let Outcome::Refused(fault) = outcome {
+        println!(rt; "{}: refused: {fault}", card.name)?;
+    }
     println!(rt;
-        "{name}: data blocks of {data_block}, tree blocks of {hash_block}, {salt} bytes of salt: tree and root {verdict}"
+        "{}: data blocks of {}, tree blocks of {}, {} bytes of salt: tree and root {outcome}",
+        card.name,
+        card.data_block,
+        card.hash_block,
+        card.salt.len()
     )?;
-    Ok(same)
+    Ok(outcome == Outcome::Same)
 }
 
 fn run(rt: &HostRuntime) -> anyhow::Result<()> {
     let mut all = true;
     for card in Card::ALL {
-        all = compare(rt, card)? && all;
+        all &= compare(rt, &card)?;
     }
-    if all {
-        Ok(())
-    } else {
-        Err(anyhow!("a tree or a root differs"))
-    }
+    ensure!(all, "a tree or a root differs");
+    Ok(())
 }
 
 fn main(rt: HostRuntime) -> anyhow::Result<()> {

@@ -1,8 +1,8 @@
 // The expected digests: a line for each digest and message, as `sha256 abc ba78..`.
-use crate::function::Function;
 use crate::message::Message;
 use std::alloc::{AllocError, Global};
 use std::{fmt, fs, io};
+use text::Function;
 
 #[derive(Drop)]
 pub struct Expected {
@@ -30,12 +30,12 @@ impl Expected {
         hex: &str,
     ) -> Result<Verdict, AllocError> {
         let wanted = format!(in heap; "{function} {message} {hex}")?;
-        for line in self.text.lines() {
-            if line == wanted.as_str() {
-                return Ok(Verdict::Right);
-            }
-        }
-        Ok(Verdict::Wrong)
+        let found = self.text.lines().any(|line| line == wanted.as_str());
+        Ok(if found {
+            Verdict::Right
+        } else {
+            Verdict::Wrong
+        })
     }
 }
 

@@ -3,19 +3,25 @@
 #![tactic(auto)]
 
 mod expected;
-mod function;
 mod message;
 mod split;
 mod tally;
 #[cfg(test)]
 mod tests;
 
-use anyhow::anyhow;
+use anyhow::{anyhow, ensure};
 use expected::{Expected, Verdict};
-use function::Function;
 use message::Message;
 use split::Split;
 use tally::Tally;
+use text::{Function, Unhashed};
+
+fn told(why: Unhashed) -> anyhow::Error {
+    match why {
+        Unhashed::Refused(_) => anyhow!("a message was refused"),
+        Unhashed::Memory(error) => error.into(),
+    }
+}
 
 // One line for each way that the message is split between the two arguments.
 fn run_message(
@@ -29,30 +35,29 @@ fn run_message(
     let bytes = message.bytes(heap)?;
     for split in Split::ALL {
         let (first, second) = split.parts(bytes.as_slice());
-        let found = function.hex(heap, first, second)?;
+        let found = function.hex(heap, first, second).map_err(told)?;
         let verdict = expected.verdict(heap, function, message, found.as_str())?;
         tally.count(verdict);
-        let at = first.len();
-        let rest = second.len();
-        println!(rt; "{function} {message} {at}+{rest} {found} {verdict}")?;
+        println!(rt;
+            "{function} {message} {}+{} {found} {verdict}",
+            first.len(),
+            second.len()
+        )?;
     }
     Ok(())
 }
 
 fn run(rt: &HostRuntime) -> anyhow::Result<()> {
     let expected = Expected::read(rt)?;
-    let mut tally = Tally::new();
+    let mut tally = Tally::default();
     for function in Function::ALL {
         for message in Message::ALL {
             run_message(rt, &expected, function, message, &mut tally)?;
         }
     }
     rt.println(&tally)?;
-    if tally.all_right() {
-        Ok(())
-    } else {
-        Err(anyhow!("a digest is wrong"))
-    }
+    ensure!(tally.all_right(), "a digest is wrong");
+    Ok(())
 }
 
 fn main(rt: HostRuntime) -> anyhow::Result<()> {

@@ -1,5 +1,6 @@
 // The messages that are hashed.
-ghost use Rattle.std.specs.Prelude.{◌≡◌, ◌+◌, ◌*◌, ◌%◌};
+ghost use Rattle.std.specs.Prelude.{◌≡◌, ◌+◌, ◌*◌, ◌%◌, IfOk, map};
+ghost use Rattle.std.specs.List.{range_with_len};
 
 use std::alloc::{AllocError, Global};
 use std::fmt;
@@ -54,12 +55,10 @@ impl Message {
     }
 }
 
-pub fn pattern(heap: Global, len: usize) -> Result<Vec<u8>, AllocError> {
-    let mut bytes = Vec::with_capacity(heap, len)?;
-    for i in 0..len {
-        bytes.push(pattern_byte(i))?;
-    }
-    Ok(bytes)
+pub fn pattern(heap: Global, len: usize) -> Result<Vec<u8>, AllocError>
+    ensures { IfOk result (λ bytes. bytes.items ≡ map (λ i. (7 * (i % 251) + 3) % 251) (range_with_len 0 len)) }
+{
+    (0..len).map(pattern_byte).collect(heap)
 }
 
 // (7 i + 3) mod 251, for an `i` of any size.

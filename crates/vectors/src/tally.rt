@@ -2,20 +2,13 @@
 use crate::expected::Verdict;
 use std::fmt;
 
-#[derive(Drop)]
+#[derive(Default, Drop)]
 pub struct Tally {
     digests: u32,
     wrong: u32,
 }
 
 impl Tally {
-    pub fn new() -> Tally {
-        Tally {
-            digests: 0,
-            wrong: 0,
-        }
-    }
-
     pub fn count(&mut self, verdict: Verdict) {
         self.digests = self.digests.saturating_add(1);
         match verdict {

@@ -6,19 +6,11 @@ use std::test::Fail;
 // Whether the call is refused, with the buffer all zeros.
 fn refused<D: Digest>(digest: &D, first: &[u8], second: &[u8], out: &mut [u8]) -> bool {
     out.fill(7);
-    match digest.digest(first, second, out) {
-        Ok(()) => false,
-        Err(Refusal::Length) => all_zeros(out),
-    }
+    digest.digest(first, second, out) == Err(Refusal::Length) && all_zeros(out)
 }
 
 fn all_zeros(bytes: &[u8]) -> bool {
-    for byte in bytes {
-        if *byte != 0 {
-            return false;
-        }
-    }
-    true
+    bytes.iter().all(|byte| *byte == 0)
 }
 
 #[test]

@@ -1,0 +1,53 @@
+-- Pairs of digits, read one at a time; and that reading undoes writing.
+use Rattle.std.proofs.Common.{◌≡◌, ℕ, suc, ◌+◌, ◌-◌, ◌*◌, ◌/◌, ◌%◌, ◌<◌, ◌≤◌, ◌==◌, List, [], ◌∷◌, ◌++◌, length, take, drop, get_or, Option, Some, None, refl, sym, ap, ◌∙◌, arith, append_assoc}
+use Rattle.std.specs.Bool.{then_some}
+use Rattle.std.specs.Option.{option_map}
+use Rattle.std.proofs.lemmas.List.{append-nil, take_rest}
+use Rattle.std.proofs.lemmas.Bool.Decides.{nat_tests}
+use Rattle.text.specs.Hex.{before, byte_of, digit_of, digit_value, hex_of, unhex_of}
+
+-- the first two digits, and the rest
+unhex_of-pair : (s : List ℕ) → 2 ≤ length s → unhex_of s ≡ before (byte_of (get_or s 0 0) (get_or s 1 0)) (unhex_of (drop 2 s))
+unfolding unhex_of
+unhex_of-pair [] h = absurd (omega arith)
+unhex_of-pair (c ∷ []) h = absurd (omega arith)
+unhex_of-pair (high ∷ low ∷ rest) h = refl
+
+before-map : (front : List ℕ) (byte : ℕ) (more : Option (List ℕ)) → option_map (λ m. (front ++ byte ∷ []) ++ m) more ≡ option_map (λ m. front ++ m) (before (Some byte) more)
+before-map front byte (Some m) = ap Some (append_assoc front (byte ∷ []) m)
+before-map front byte None = refl
+
+-- two that are no digits
+pub unpaired : (s : List ℕ) (f : List ℕ → List ℕ) (t : Option (List ℕ)) → 2 ≤ length s → byte_of (get_or s 0 0) (get_or s 1 0) ≡ None → option_map f (unhex_of s) ≡ t → None ≡ t
+unpaired s f t long bad found = ap (λ b. option_map f (before b (unhex_of (drop 2 s)))) (sym bad) ∙ ap (option_map f) (sym (unhex_of-pair s long)) ∙ found
+
+-- one byte more
+pub paired : (s front after : List ℕ) (byte : ℕ) (t : Option (List ℕ)) → 2 ≤ length s → byte_of (get_or s 0 0) (get_or s 1 0) ≡ Some byte → after ≡ front ++ byte ∷ [] → option_map (λ m. front ++ m) (unhex_of s) ≡ t → option_map (λ m. after ++ m) (unhex_of (take (length s - 2) (drop 2 s))) ≡ t
+paired s front after byte t long good longer found =
+    let whole : take (length s - 2) (drop 2 s) ≡ drop 2 s = take_rest s 2 in
+    let pair : before (Some byte) (unhex_of (drop 2 s)) ≡ unhex_of s = ap (λ b. before b (unhex_of (drop 2 s))) (sym good) ∙ sym (unhex_of-pair s long) in
+    rw (whole, longer) (before-map front byte (unhex_of (drop 2 s)) ∙ ap (option_map (λ m. front ++ m)) pair ∙ found)
+
+-- the end of the pairs
+pub ended : {V : Type 0} (items : V → List ℕ) (v : V) (s : List ℕ) (t : Option (List ℕ)) → length s < 2 → option_map (λ m. items v ++ m) (unhex_of s) ≡ t → option_map items (then_some (length s == 0) v) ≡ t
+unfolding unhex_of
+ended items v [] t short found = ap Some (sym (append-nil (items v))) ∙ found
+ended items v (c ∷ []) t short found = found
+ended items v (c ∷ d ∷ rest) t short found = absurd (omega arith)
+
+-- a digit that was written reads as itself
+digit_value-digit_of : (n : ℕ) → n < 16 → digit_value (digit_of n) ≡ Some n
+digit_value-digit_of n h = grind (arith, nat_tests)
+
+byte_of-two_digits : (b : ℕ) → b < 256 → byte_of (digit_of (b / 16)) (digit_of (b % 16)) ≡ Some b
+byte_of-two_digits b h =
+    let high : b / 16 < 16 = omega arith in
+    let low : b % 16 < 16 = omega arith in
+    let whole : b / 16 * 16 + b % 16 ≡ b = omega arith in
+    rw (digit_value-digit_of (b / 16) high, digit_value-digit_of (b % 16) low) (ap Some whole)
+
+-- the bytes of their own digits
+pub unhex_of-hex_of : (bytes : List ℕ) → ((i : ℕ) → get_or bytes i 0 < 256) → unhex_of (hex_of bytes) ≡ Some bytes
+unfolding unhex_of
+unhex_of-hex_of [] h = refl
+unhex_of-hex_of (b ∷ rest) h = rw (byte_of-two_digits b (h 0), unhex_of-hex_of rest (λ i. h (suc i)))

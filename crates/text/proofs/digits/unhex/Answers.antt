@@ -1,0 +1,14 @@
+use Rattle.std.proofs.Common.{sym, ◌∙◌}
+use Rattle.text.proofs.Pairs.{ended, paired, unpaired}
+use Rattle.text.proofs.digits.unhex.Goals as goal
+
+pub returns-in_default-byte_of : goal.returns-in_default-byte_of
+returns-in_default-byte_of c = unpaired c.loop-rest.rest.now _ _ c.in-len2-up.len_at_least (sym c.byte_of.ensures ∙ c.in_default-byte_of.is) c.loop-rest.invariant
+
+pub loop-rest-preserved : goal.loop-rest-preserved
+loop-rest-preserved c =
+    paired c.loop-rest.rest.now c.loop-rest.bytes.items c.push.new.self.items c.in-Some.byte _ c.in-len2-up.len_at_least
+    (sym c.byte_of.ensures ∙ c.in-Some.is) c.in_ok-push.ensures.items c.loop-rest.invariant
+
+pub returns : goal.returns
+returns c = let e = ended (λ v. v.items) c.loop-rest.bytes c.loop-rest.rest.now _ c.in_default.len_below c.loop-rest.invariant in cc

@@ -1,0 +1,63 @@
+// Bytes in hexadecimal.
+ghost use Rattle.std.specs.Prelude.{◌≡◌, ◌<◌, IfOk, option_map, string_bytes};
+ghost use Rattle.text.specs.Hex.{byte_of, digit_of, digit_value, hex_of, unhex_of};
+
+use std::alloc::{AllocError, Global};
+
+fn digit(n: u8) -> char
+    requires { n < 16 }
+    ensures value { result ≡ digit_of n }
+    ensures ascii { result < 128 }
+{
+    if n < 10 {
+        (b'0' + n) as char
+    } else {
+        (b'a' - 10 + n) as char
+    }
+}
+
+// Two digits for each byte.
+pub fn hex(heap: Global, bytes: &[u8]) -> Result<String, AllocError>
+    ensures { IfOk result (λ s. string_bytes s ≡ hex_of bytes.now) }
+{
+    let mut text = String::new(heap);
+    for byte in bytes {
+        text.push(digit(byte / 16))?;
+        text.push(digit(byte % 16))?;
+    }
+    Ok(text)
+}
+
+fn digit_value(c: u8) -> Option<u8>
+    ensures { result ≡ digit_value c }
+{
+    match c {
+        b'0'..=b'9' => Some(c - b'0'),
+        b'a'..=b'f' => Some(c - b'a' + 10),
+        b'A'..=b'F' => Some(c - b'A' + 10),
+        _ => None,
+    }
+}
+
+// The byte of two digits.
+fn byte_of(high: u8, low: u8) -> Option<u8>
+    ensures { result ≡ byte_of high low }
+{
+    Some(digit_value(high)? * 16 + digit_value(low)?)
+}
+
+// The bytes that pairs of digits stand for, or none where the text is no such pairs.
+pub fn unhex(heap: Global, text: &[u8]) -> Result<Option<Vec<u8>>, AllocError>
+    ensures { IfOk result (λ found. option_map (λ v. v.items) found ≡ unhex_of text.now) }
+{
+    let mut bytes = Vec::new(heap);
+    let mut rest = text;
+    while let [high, low, tail @ ..] = rest {
+        let Some(byte) = byte_of(*high, *low) else {
+            return Ok(None);
+        };
+        bytes.push(byte)?;
+        rest = tail;
+    }
+    Ok(rest.is_empty().then_some(bytes))
+}

@@ -1,0 +1,89 @@
+// The digest functions that a program can name.
+ghost use Rattle.std.specs.Prelude.{◌≡◌, ◌+◌, ◌≤◌, ◌++◌, IfOk, OnOk, Some, length, string_bytes};
+ghost use Rattle.std.specs.Result.{result_ok};
+ghost use Rattle.text.specs.Hex.{hex_of};
+ghost use Rattle.text.specs.Name.{name_of, named};
+ghost use Rattle.text.specs.Sum.{sum_of};
+
+use crate::digits::hex;
+use digest::{Digest, Refusal, Sha256, Sha512};
+use std::alloc::{AllocError, Global};
+use std::fmt;
+use std::str::FromStr;
+use thiserror::Error;
+
+#[derive(Clone, Copy, PartialEq, Eq, Debug)]
+pub enum Function {
+    Sha256,
+    Sha512,
+}
+
+// The text names no function.
+#[derive(Clone, Copy, PartialEq, Eq, Debug, Error)]
+#[error("unknown digest function")]
+pub struct UnknownFunction;
+
+// Why there is no digest.
+#[derive(Debug, Drop, Error)]
+pub enum Unhashed {
+    #[error("refused for its length")]
+    Refused(#[from] Refusal),
+    #[error(transparent)]
+    Memory(#[from(alloc)] AllocError),
+}
+
+impl Function {
+    pub const ALL: [Function; 2] = [Function::Sha256, Function::Sha512];
+
+    // The digest of `first` joined to `second`, in hexadecimal.
+    pub fn hex(self, heap: Global, first: &[u8], second: &[u8]) -> Result<String, Unhashed>
+        ensures hex { IfOk result (λ s. string_bytes s ≡ hex_of (sum_of self (first.now ++ second.now))) }
+        ensures within { OnOk result (length first.now + length second.now ≤ 4352) }
+    {
+        let digest = match self {
+            Function::Sha256 => digest_of(heap, &Sha256, first, second)?,
+            Function::Sha512 => digest_of(heap, &Sha512, first, second)?,
+        };
+        Ok(hex(heap, digest.as_slice())?)
+    }
+}
+
+impl fmt::Display for Function {
+    ghost output = { λ function. Some (name_of function) };
+
+    fn fmt<W: fmt::Write>(&self, f: &mut fmt::Formatter<W>) -> fmt::Result {
+        match self {
+            Function::Sha256 => write!(f, "sha256"),
+            Function::Sha512 => write!(f, "sha512"),
+        }
+    }
+}
+
+impl FromStr for Function {
+    type Err = UnknownFunction;
+
+    ghost from_str_gives = { λ text r. result_ok r ≡ named text };
+
+    fn from_str(text: &str) -> Result<Function, UnknownFunction> {
+        match text {
+            "sha256" => Ok(Function::Sha256),
+            "sha512" => Ok(Function::Sha512),
+            _ => Err(UnknownFunction),
+        }
+    }
+}
+
+// The digest of `first` joined to `second`.
+fn digest_of<D: Digest>(
+    heap: Global,
+    digest: &D,
+    first: &[u8],
+    second: &[u8],
+) -> Result<Vec<u8>, Unhashed>
+    ensures value { IfOk result (λ v. v.items ≡ D.meaning (first.now ++ second.now)) }
+    ensures within { OnOk result (length first.now + length second.now ≤ 4352) }
+{
+    let mut out = vec![in heap; 0u8; digest.output_len()]?;
+    digest.digest(first, second, out.as_mut_slice())?;
+    Ok(out)
+}

@@ -1,0 +1,41 @@
+// Names, digits and digests as others write them.
+use crate::{Function, Unhashed, UnknownFunction, hex, unhex};
+use std::test::Fail;
+
+#[test]
+fn reads_the_names_it_prints(rt: HostRuntime) -> Result<(), Fail> {
+    for function in Function::ALL {
+        let name = format!(in rt.alloc(); "{function}")?;
+        assert_eq!(rt; name.as_str().parse::<Function>(), Ok(function));
+    }
+    for name in ["", "sha256 ", "SHA256", "sha384", "sha5120"] {
+        assert_eq!(rt; name.parse::<Function>(), Err(UnknownFunction));
+    }
+    Ok(())
+}
+
+#[test]
+fn reads_digits_of_both_cases(rt: HostRuntime) -> Result<(), Fail> {
+    let heap = rt.alloc();
+    let bytes = unhex(heap, b"00fFa9")?;
+    assert!(rt; bytes.is_some_and(|bytes| bytes.as_slice() == b"\x00\xff\xa9".as_slice()));
+    assert_eq!(rt; hex(heap, b"\x00\xff\xa9")?.as_str(), "00ffa9");
+    for text in ["0", "0g", "zz", "00f"] {
+        assert!(rt; unhex(heap, text.as_bytes())?.is_none());
+    }
+    Ok(())
+}
+
+// FIPS 180-4's example, in two parts; and one byte above the limit.
+#[test]
+fn joins_the_parts(rt: HostRuntime) -> Result<(), Fail> {
+    let heap = rt.alloc();
+    let found = Function::Sha256.hex(heap, b"a", b"bc");
+    assert!(rt;
+        found.is_ok_and(|hex| hex.as_str()
+            == "ba7816bf8f01cfea414140de5dae2223b00361a396177a9cb410ff61f20015ad")
+    );
+    let refused = Function::Sha512.hex(heap, &[0; 4352], b"a");
+    assert!(rt; matches!(refused, Err(Unhashed::Refused(_))));
+    Ok(())
+}
