@@ -4,7 +4,7 @@ use crate::fault::Fault;
 use crate::function::Function;
 use crate::hex::hex;
 use crate::options::BuildOptions;
-use builder::{BuildFault, build};
+use builder::{BuildFault, Source, build};
 use digest::{Digest, Sha256, Sha512};
 use geometry::{Geometry, SALT_LIMIT};
 use std::{fmt, fs};
@@ -70,17 +70,13 @@ fn make<D: Digest>(
     let geometry = geometry_of(options, image.len(), size)?;
     let mut tree = vec![in heap; 0u8; geometry.tree_len()]?;
     let mut root = vec![in heap; 0u8; size]?;
-    let (data_block, hash_block) = (options.data_block, options.hash_block);
-    let salt = options.salt.as_slice();
-    match build(
-        digest,
+    let source = Source {
         image,
-        data_block,
-        hash_block,
-        salt,
-        tree.as_mut_slice(),
-        root.as_mut_slice(),
-    ) {
+        data_block: options.data_block,
+        hash_block: options.hash_block,
+        salt: options.salt.as_slice(),
+    };
+    match build(digest, &source, tree.as_mut_slice(), root.as_mut_slice()) {
         Ok(()) => Ok(Built {
             geometry,
             tree,

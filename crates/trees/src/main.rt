@@ -4,7 +4,7 @@
 mod card;
 
 use anyhow::anyhow;
-use builder::build;
+use builder::{Source, build};
 use card::{Card, Function};
 use digest::{Digest, Sha256, Sha512};
 use std::fs;
@@ -18,15 +18,13 @@ fn rebuild<D: Digest>(rt: &HostRuntime, digest: &D, card: Card) -> anyhow::Resul
     let mut tree = vec![in heap; 0u8; made.len()]?;
     let mut root = vec![in heap; 0u8; digest.output_len()]?;
     let (data_block, hash_block) = card.sizes();
-    match build(
-        digest,
-        image.as_slice(),
+    let source = Source {
+        image: image.as_slice(),
         data_block,
         hash_block,
-        card.salt(),
-        tree.as_mut_slice(),
-        root.as_mut_slice(),
-    ) {
+        salt: card.salt(),
+    };
+    match build(digest, &source, tree.as_mut_slice(), root.as_mut_slice()) {
         Ok(()) => Ok(tree.as_slice() == made.as_slice() && root.as_slice() == card.root()),
         Err(fault) => {
             println!(rt; "{name}: refused: {fault}")?;
