@@ -1,60 +1,63 @@
 -- From the levels below to the whole tree and its root.
-use Rattle.std.proofs.Common.{◌≡◌, ℕ, suc, ◌+◌, ◌-◌, ◌*◌, ◌<◌, ◌≤◌, List, ◌++◌, length, take, drop, replicate, sym, ap, ◌∙◌, add-one, arith}
+use Rattle.std.proofs.Common.{◌≡◌, ℕ, suc, ◌+◌, ◌-◌, ◌*◌, ◌<◌, ◌≤◌, List, ◌++◌, length, take, drop, replicate, sym, ap, ◌∙◌, ap₂, add-one, arith}
 use Rattle.std.proofs.lemmas.List.{append_assoc, append-nil, length-replicate, take_all, take-replicate, drop-replicate}
 use Rattle.tree.specs.Shape.{Shape, levels, width, blocks_from, start}
-use Rattle.tree.specs.Tree.{node, level, lowest, tree, root}
-use Rattle.tree.specs.Laws.{Sound}
+use Rattle.tree.specs.Tree.{salted, node, level, lowest, tree, root}
 use Rattle.tree.proofs.Widths.{width_top}
-use Rattle.builder.specs.Rows.{block_len, row}
+use Rattle.builder.specs.Ready.{Ready}
+use Rattle.builder.specs.Parts.{block_len, level_len, len_from, row}
 use Rattle.builder.proofs.Rows.{row_block, length-row}
 
--- the blocks of the levels from i up: those of level i, and those before it
-blocks_next : (s : Shape) (i : ℕ) → i < levels s → blocks_from s i (levels s - i) ≡ width s (suc i) + start s i
-unfolding blocks_from
-blocks_next s i low = ap (blocks_from s i) (let e : levels s - i ≡ suc (levels s - suc i) = omega arith in e)
+-- zeros for the levels from i up, cut where level i starts; the numbers are as the code read them
+module _ (s : Shape) {i top first bytes : ℕ} {buf : List ℕ} (low : i ≤ levels s) (more : i ≡ top → ⊥) (top-is : top ≡ levels s) (first-is : first ≡ start s i) (bytes-is : bytes ≡ s.hash_block)
+    (zeros : buf ≡ replicate (len_from s i) 0) where
+  here : first * bytes ≡ start s i * s.hash_block
+  here = ap₂ (λ x y. x * y) first-is bytes-is
 
--- zeros for the levels from i up, cut where level i starts
-module _ (s : Shape) (i at : ℕ) (buf : List ℕ) (low : i < levels s) (here : at ≡ start s i * s.hash_block)
-    (zeros : buf ≡ replicate (blocks_from s i (levels s - i) * s.hash_block) 0) where
-  bytes : blocks_from s i (levels s - i) * s.hash_block ≡ at + width s (i + 1) * s.hash_block
-  bytes =
-      let parts = ap (λ k. k * s.hash_block) (blocks_next s i low) in
-      let next = ap (λ k. width s k * s.hash_block) (add-one i) in
-      omega (arith, parts, next)
+  under : i < levels s
+  under = omega (arith, low, more, top-is)
 
-  pub cut_inside : at ≤ length buf
-  cut_inside = omega (arith, bytes, ap length zeros ∙ length-replicate (blocks_from s i (levels s - i) * s.hash_block) 0)
+  parts : len_from s i ≡ start s i * s.hash_block + level_len s i
+  unfolding blocks_from
+  parts =
+      let next : levels s - i ≡ suc (levels s - suc i) = omega (arith, under) in
+      ap (λ k. blocks_from s i k * s.hash_block) next ∙ omega arith
 
-  pub cut_above : take at buf ≡ replicate (blocks_from s (i + 1) (levels s - (i + 1)) * s.hash_block) 0
+  pub cut_inside : first * bytes ≤ length buf
+  cut_inside = omega (arith, here, parts, ap length zeros ∙ length-replicate (len_from s i) 0)
+
+  pub cut_above : take (first * bytes) buf ≡ replicate (len_from s (i + 1)) 0
   cut_above =
-      ap (take at) zeros ∙ take-replicate at (blocks_from s i (levels s - i) * s.hash_block) 0 (omega (arith, bytes))
-      ∙ ap (λ k. replicate k 0) (here ∙ ap (λ k. blocks_from s k (levels s - k) * s.hash_block) (sym (add-one i)))
+      ap (take (first * bytes)) zeros ∙ take-replicate (first * bytes) (len_from s i) 0 (omega (arith, here, parts))
+      ∙ ap (λ k. replicate k 0) (here ∙ ap (len_from s) (sym (add-one i)))
 
-  pub cut_level : drop at buf ≡ replicate (width s (i + 1) * s.hash_block) 0
+  pub cut_level : drop (first * bytes) buf ≡ replicate (level_len s i) 0
   cut_level =
-      ap (drop at) zeros ∙ drop-replicate at (blocks_from s i (levels s - i) * s.hash_block) 0
-      ∙ ap (λ k. replicate k 0) (let e : blocks_from s i (levels s - i) * s.hash_block - at ≡ width s (i + 1) * s.hash_block = omega (arith, bytes) in e)
+      let rest : len_from s i - first * bytes ≡ level_len s i = omega (arith, here, parts) in
+      ap (drop (first * bytes)) zeros ∙ drop-replicate (first * bytes) (len_from s i) 0 ∙ ap (λ k. replicate k 0) rest
 
-module _ {h : List ℕ → List ℕ} {s : Shape} {size : ℕ} (sound : Sound h s size) (image : List ℕ) (whole : length image ≡ s.blocks * s.data_block) where
-  module _ (i : ℕ) (top : i ≡ levels s) where
-    one : width s i ≡ 1
-    one = ap (width s) top ∙ width_top s sound.wide sound.some
+module _ {meaning : List ℕ → List ℕ} {size : ℕ} {s : Shape} {image salt : List ℕ} (ready : Ready meaning size s image salt) {i : ℕ} (top : i ≡ levels s) where
+  abbrev h : List ℕ → List ℕ
+  h = salted meaning salt
 
-    -- the row on top is one block
-    pub length-top : length (row h s image i) ≡ block_len s i
-    length-top = length-row sound image whole i ∙ ap (λ k. k * block_len s i) one ∙ omega arith
+  one : width s i ≡ 1
+  one = ap (width s) top ∙ width_top s ready.sound.wide ready.sound.some
 
-    -- whose digest is the root
-    pub top_root : h (row h s image i) ≡ root h s image
-    unfolding root
-    top_root =
-        let none : 0 * block_len s i ≡ 0 = omega arith in
-        ap h
-        (sym (ap (λ k. take (block_len s i) (drop k (row h s image i))) none ∙ take_all (block_len s i) (row h s image i) (omega (arith, length-top)))
-        ∙ row_block sound image whole i 0 (omega (arith, one)) ∙ ap (λ k. node h s image k 0) top)
+  -- the row on top is one block
+  pub length-top : length (row h s image i) ≡ block_len s i
+  length-top = length-row ready i ∙ ap (λ k. k * block_len s i) one ∙ omega arith
+
+  -- whose digest is the root
+  pub top_root : h (row h s image i) ≡ root h s image
+  unfolding root
+  top_root =
+      let none : 0 * block_len s i ≡ 0 = omega arith in
+      ap h
+      (sym (ap (λ k. take (block_len s i) (drop k (row h s image i))) none ∙ take_all (block_len s i) (row h s image i) (omega (arith, length-top)))
+      ∙ row_block ready i 0 (omega (arith, one)) ∙ ap (λ k. node h s image k 0) top)
 
 -- above the top level is nothing
-pub top_tree : (h : List ℕ → List ℕ) (s : Shape) (image : List ℕ) (i : ℕ) (buf : List ℕ) → i ≡ levels s → buf ≡ replicate (blocks_from s i (levels s - i) * s.hash_block) 0
+pub top_tree : (h : List ℕ → List ℕ) (s : Shape) (image : List ℕ) (i : ℕ) (buf : List ℕ) → i ≡ levels s → buf ≡ replicate (len_from s i) 0
     → tree h s image ≡ buf ++ lowest h s image i
 unfolding tree blocks_from
 top_tree h s image i buf top zeros =

@@ -1,4 +1,4 @@
+pub mod Ready
 pub mod Joins
-pub mod Sounds
 pub mod Rows
 pub mod Climb

@@ -1,18 +1,18 @@
 -- A level is one row of slots over the row below it, with zeros behind them.
-use Rattle.std.proofs.Common.{◌≡◌, ℕ, zero, suc, ◌+◌, ◌-◌, ◌*◌, ◌<◌, ◌≤◌, cond, ltb, List, [], ◌++◌, length, take, drop, replicate, sym, refl, ap, ◌∙◌, ap₂, inl, inr, mul-le-mul_right, mul_assoc, add-one, arith}
+use Rattle.std.proofs.Common.{◌≡◌, ℕ, zero, suc, ◌+◌, ◌-◌, ◌*◌, ◌<◌, ◌≤◌, cond, ltb, List, [], ◌++◌, length, take, drop, replicate, sym, refl, ap, ◌∙◌, ap₂, inl, inr, mul-le-mul_right, mul_assoc, arith}
 use borrow.Rule.Slice.PartMut.{put_mid}
 use Rattle.std.specs.List.{range_with_len, flat_map}
 use Rattle.std.proofs.lemmas.List.{append_assoc, append-nil, length-append, length-replicate, length-drop, replicate-append-replicate, take_at, drop_at, drop-drop, drop-replicate}
 use Rattle.std.proofs.lemmas.Nat.{mod_below, div-add-mod'}
 use Rattle.std.proofs.lemmas.Bool.{cond-true, cond-false, lt-ltb, le-ltb, cases_lt}
 use Rattle.tree.specs.Shape.{Shape, fanout, width}
-use Rattle.tree.specs.Tree.{block_of, in_slot, node, level}
-use Rattle.tree.specs.Laws.{Sound}
+use Rattle.tree.specs.Tree.{salted, block_of, in_slot, node, level}
 use Rattle.tree.proofs.Pieces.{length_pieces}
 use Rattle.tree.proofs.Slots.{length-in_slot}
 use Rattle.tree.proofs.Places.{length-level, in_level}
 use Rattle.tree.proofs.Widths.{parent, width_zero}
-use Rattle.builder.specs.Rows.{block_len, row}
+use Rattle.builder.specs.Ready.{Ready}
+use Rattle.builder.specs.Parts.{block_len, level_len, row}
 use Rattle.builder.proofs.Joins.{joined_split, joined_more, joined_rows, joined_same, joined_zeros}
 
 -- every block of a width has a slot a step above
@@ -36,7 +36,7 @@ slots h s image i j = flat_map (λ t. in_slot s.slot (h (node h s image i t))) (
 
 -- those, with zeros behind them
 unfoldable filled : (List ℕ → List ℕ) → Shape → List ℕ → ℕ → ℕ → List ℕ
-filled h s image i j = slots h s image i j ++ replicate (width s (suc i) * s.hash_block - j * s.slot) 0
+filled h s image i j = slots h s image i j ++ replicate (level_len s i - j * s.slot) 0
 
 -- level i with j slots filled, over a row of blocks of n bytes of which those from j on are left
 pub record Filling (h : List ℕ → List ℕ) (s : Shape) (image : List ℕ) (i j n : ℕ) (left buf : List ℕ) : Type 0 where
@@ -45,31 +45,34 @@ pub record Filling (h : List ℕ → List ℕ) (s : Shape) (image : List ℕ) (i
   within : j ≤ width s i
   done : buf ≡ filled h s image i j
 
-module _ {h : List ℕ → List ℕ} {s : Shape} {size : ℕ} (sound : Sound h s size) (image : List ℕ) (whole : length image ≡ s.blocks * s.data_block) where
+module _ {meaning : List ℕ → List ℕ} {size : ℕ} {s : Shape} {image salt : List ℕ} (ready : Ready meaning size s image salt) where
+  abbrev h : List ℕ → List ℕ
+  h = salted meaning salt
+
   positive : 0 < fanout s
-  positive = omega (arith, sound.wide)
+  positive = omega (arith, ready.sound.wide)
 
   -- a row is its blocks
   pub row_block : (i j : ℕ) → j < width s i → block_of (block_len s i) (row h s image i) j ≡ node h s image i j
   unfolding node
   row_block zero j there = refl
-  row_block (suc i) j there = ap (λ xs. block_of s.hash_block xs j) (sym (append-nil (level h s image i))) ∙ in_level h s size sound image i j [] there
+  row_block (suc i) j there = ap (λ xs. block_of s.hash_block xs j) (sym (append-nil (level h s image i))) ∙ in_level h s size ready.sound image i j [] there
 
   pub length-row : (i : ℕ) → length (row h s image i) ≡ width s i * block_len s i
-  length-row zero = whole ∙ ap (λ k. k * s.data_block) (sym (width_zero s positive))
-  length-row (suc i) = length-level h s size sound image i
+  length-row zero = ready.whole ∙ ap (λ k. k * s.data_block) (sym (width_zero s positive))
+  length-row (suc i) = length-level h s size ready.sound image i
 
   length-slots : (i j : ℕ) → length (slots h s image i j) ≡ j * s.slot
   length-slots i j =
       length_pieces (λ t. in_slot s.slot (h (node h s image i t))) s.slot
-      (λ t. length-in_slot s.slot size (h (node h s image i t)) (sound.sized (node h s image i t)) sound.fits) j 0
+      (λ t. length-in_slot s.slot size (h (node h s image i t)) (ready.sound.sized (node h s image i t)) ready.sound.fits) j 0
 
   -- the slots of a width fit the level above
   slots_room : (i : ℕ) → width s i * s.slot ≤ width s (suc i) * s.hash_block
   slots_room i =
       let w = width s (suc i) in
       let room = mul-le-mul_right s.slot (wide_enough s positive i) in
-      let same : w * fanout s * s.slot ≡ w * s.hash_block = mul_assoc w (fanout s) s.slot ∙ ap (λ k. w * k) sound.filled in
+      let same : w * fanout s * s.slot ≡ w * s.hash_block = mul_assoc w (fanout s) s.slot ∙ ap (λ k. w * k) ready.sound.filled in
       omega arith
 
   -- where slot j lies
@@ -95,8 +98,8 @@ module _ {h : List ℕ → List ℕ} {s : Shape} {size : ℕ} (sound : Sound h s
       let gap : List ℕ = replicate (s.slot - length d) 0 in
       let left = r - s.slot in
       let lp = length-slots i j in
-      let sized : length d ≡ size = ap length made ∙ sound.sized (node h s image i j) in
-      let fits = sound.fits in
+      let sized : length d ≡ size = ap length made ∙ ready.sound.sized (node h s image i j) in
+      let fits = ready.sound.fits in
       let room = slots_room i in
       let behind = mul-le-mul_right s.slot there in
       let parts : r - size ≡ s.slot - length d + left = omega arith in
@@ -124,7 +127,7 @@ module _ {h : List ℕ → List ℕ} {s : Shape} {size : ℕ} (sound : Sound h s
       let r = up * f - w in
       let none : 0 * f ≡ 0 = omega arith in
       let parts : up * f ≡ w + r = omega (arith, wide_enough s positive i) in
-      let bytes : up * f * s.slot ≡ up * s.hash_block = mul_assoc up f s.slot ∙ ap (λ k. up * k) sound.filled in
+      let bytes : up * f * s.slot ≡ up * s.hash_block = mul_assoc up f s.slot ∙ ap (λ k. up * k) ready.sound.filled in
       let sums : up * f * s.slot ≡ w * s.slot + r * s.slot = ap (λ k. k * s.slot) parts ∙ omega arith in
       let rest : r * s.slot ≡ up * s.hash_block - w * s.slot = omega (arith, bytes, sums) in
       let full : (k : ℕ) → 0 ≤ k → k < 0 + w → slot_at i k ≡ in_slot s.slot (h (node h s image i k)) = λ k low high.
@@ -137,19 +140,19 @@ module _ {h : List ℕ → List ℕ} {s : Shape} {size : ℕ} (sound : Sound h s
       (joined_same (slot_at i) (λ k. replicate s.slot 0) r (0 + w) empty ∙ joined_zeros s.slot r (0 + w) ∙ ap (λ k. replicate k 0) rest))
 
   -- no slot yet
-  pub filling_starts : (i n : ℕ) (left buf : List ℕ) → n ≡ block_len s i → left ≡ row h s image i → buf ≡ replicate (width s (i + 1) * s.hash_block) 0 → Filling h s image i 0 n left buf
+  pub filling_starts : {i n : ℕ} {left buf : List ℕ} → n ≡ block_len s i → left ≡ row h s image i → buf ≡ replicate (level_len s i) 0 → Filling h s image i 0 n left buf
   unfolding filled
-  filling_starts i n left buf bytes all zeros =
-      let next : width s (i + 1) * s.hash_block ≡ width s (suc i) * s.hash_block - 0 * s.slot = ap (λ k. width s k * s.hash_block) (add-one i) ∙ omega arith in
+  filling_starts {i = i} {n = n} bytes all zeros =
       let none : 0 ≡ 0 * n = omega arith in
+      let room : level_len s i ≡ level_len s i - 0 * s.slot = omega arith in
       record {
         bytes = bytes;
         rest = all ∙ ap (λ k. drop k (row h s image i)) none;
         within = omega arith;
-        done = zeros ∙ ap (λ k. replicate k 0) next;
+        done = zeros ∙ ap (λ k. replicate k 0) room;
       }
 
-  module _ (i j n : ℕ) (left buf : List ℕ) (filling : Filling h s image i j n left buf) where
+  module _ {i j n : ℕ} {left buf : List ℕ} (filling : Filling h s image i j n left buf) where
     long : length left ≡ width s i * n - j * n
     long = ap length filling.rest ∙ length-drop (j * n) (row h s image i) ∙ ap (λ k. k - j * n) (length-row i ∙ ap (λ k. width s i * k) (sym filling.bytes))
 
@@ -172,12 +175,12 @@ module _ {h : List ℕ → List ℕ} {s : Shape} {size : ℕ} (sound : Sound h s
 
       -- its slot has room
       pub filling_room : j * s.slot + size ≤ length buf
-      filling_room = omega (arith, filled_room i j there, ap length filling.done, sound.fits)
+      filling_room = omega (arith, filled_room i j there, ap length filling.done, ready.sound.fits)
 
       -- and is filled
-      pub filling_goes : (next bytes at len : ℕ) (d : List ℕ) → next ≡ j + 1 → bytes ≡ n → at ≡ j * s.slot → len ≡ size → d ≡ h block
+      pub filling_goes : {next bytes at len : ℕ} {d : List ℕ} → next ≡ j + 1 → bytes ≡ n → at ≡ j * s.slot → len ≡ size → d ≡ h block
           → Filling h s image i next bytes more (put_mid at len buf d)
-      filling_goes next bytes at len d counted same here sized made =
+      filling_goes {next = next} {bytes = bytes} {at = at} {len = len} {d = d} counted same here sized made =
           let r = row h s image i in
           let once : j * n + n ≡ (j + 1) * n = omega arith in
           let far : j * n + n ≡ next * bytes = once ∙ ap₂ (λ x y. x * y) (sym counted) (sym same) in

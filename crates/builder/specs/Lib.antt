@@ -1,4 +1,4 @@
 pub mod Build
 pub mod Check
 pub mod Ready
-pub mod Rows
+pub mod Parts

@@ -1,5 +1,5 @@
 use Rattle.std.proofs.Common.{rules}
-use Rattle.builder.proofs.Sounds.{ready_of}
+use Rattle.builder.proofs.Ready.{ready_of}
 use Rattle.builder.proofs.Climb.{whole_tree}
 use Rattle.builder.proofs.make.build.Goals as goal
 

@@ -1,17 +1,20 @@
-use Rattle.std.proofs.Common.{rules, ◌*◌, ◌<◌, length, sym, ap, ◌∙◌, ap₂, add-one, arith}
+use Rattle.std.proofs.Common.{rules, length, sym, ap, ◌∙◌, add-one, arith}
 use Rattle.geometry.specs.Of.{shape_of}
-use Rattle.tree.specs.Shape.{levels}
 use Rattle.tree.specs.Tree.{salted}
-use Rattle.builder.specs.Rows.{row}
-use Rattle.builder.proofs.Sounds.{block_len_within}
+use Rattle.builder.specs.Parts.{row_of}
+use Rattle.builder.proofs.Ready.{block_len_within}
 use Rattle.builder.proofs.Climb.{cut_inside, cut_above, cut_level, length-top, top_root, top_tree, tree_next}
 use Rattle.builder.proofs.job.Job.+climb.Goals as goal
 
 pub salted-requires-clause-short : goal.salted-requires-clause-short
 salted-requires-clause-short g t c =
     let job = c.args.self.now in
-    let one = length-top job.ready.sound job.image.now job.ready.whole c.args.i (c.if-i-levels.true ∙ c.levels.ensures) in
-    omega (arith, one, ap length c.requires.below, (block_len_within (shape_of job.geometry) job.geometry.limits c.args.i).1)
+    omega (
+      arith,
+      length-top job.ready (c.if-i-levels.true ∙ c.levels.ensures),
+      ap length c.requires.below,
+      (block_len_within (shape_of job.geometry) job.geometry.limits c.args.i).1,
+    )
 
 pub returns-then-i-levels-clause-tree : goal.returns-then-i-levels-clause-tree
 returns-then-i-levels-clause-tree g t c = top_tree _ _ _ c.args.i c.args.tree.now (c.if-i-levels.true ∙ c.levels.ensures) c.requires.zeros
@@ -19,34 +22,25 @@ returns-then-i-levels-clause-tree g t c = top_tree _ _ _ c.args.i c.args.tree.no
 pub returns-then-i-levels-clause-root : goal.returns-then-i-levels-clause-root
 returns-then-i-levels-clause-root g t c =
     let job = c.args.self.now in
-    let top = top_root job.ready.sound job.image.now job.ready.whole c.args.i (c.if-i-levels.true ∙ c.levels.ensures) in
-    c.salted.ensures ∙ ap (salted g.D.Digest.meaning job.salt.now) c.requires.below ∙ top
+    c.salted.ensures ∙ ap (salted g.D.Digest.meaning job.salt.now) c.requires.below ∙ top_root job.ready (c.if-i-levels.true ∙ c.levels.ensures)
 
-pub overflow_mul-start : goal.overflow_mul-start
-overflow_mul-start g t c =
-    let s = shape_of c.args.self.now.geometry in
-    let low : c.args.i < levels s = omega (arith, c.requires.low, c.if-i-levels.false, c.levels.ensures) in
-    let inside = cut_inside s c.args.i (c.start.result * c.hash_block.result) c.args.tree.now low (ap₂ (λ x y. x * y) c.start.ensures c.hash_block.ensures) c.requires.zeros in
+pub overflow_mul-above : goal.overflow_mul-above
+overflow_mul-above g t c =
+    let inside = cut_inside (shape_of c.args.self.now.geometry) c.requires.low c.if-i-levels.false c.levels.ensures c.start.ensures c.hash_block.ensures c.requires.zeros in
     record { fits = omega (arith, inside) }
 
 pub split_at_mut-above-requires : goal.split_at_mut-above-requires
-split_at_mut-above-requires g t c =
-    let s = shape_of c.args.self.now.geometry in
-    let low : c.args.i < levels s = omega (arith, c.requires.low, c.if-i-levels.false, c.levels.ensures) in
-    cut_inside s c.args.i (c.start.result * c.hash_block.result) c.args.tree.now low (ap₂ (λ x y. x * y) c.start.ensures c.hash_block.ensures) c.requires.zeros
+split_at_mut-above-requires g t c = cut_inside (shape_of c.args.self.now.geometry) c.requires.low c.if-i-levels.false c.levels.ensures c.start.ensures c.hash_block.ensures c.requires.zeros
 
 pub fill_level-requires-clause-zeros : goal.fill_level-requires-clause-zeros
 fill_level-requires-clause-zeros g t c =
-    let s = shape_of c.args.self.now.geometry in
-    let low : c.args.i < levels s = omega (arith, c.requires.low, c.if-i-levels.false, c.levels.ensures) in
-    c.split_at_mut-above.ensures.back ∙ cut_level s c.args.i (c.start.result * c.hash_block.result) c.args.tree.now low (ap₂ (λ x y. x * y) c.start.ensures c.hash_block.ensures) c.requires.zeros
+    c.split_at_mut-above.ensures.back ∙ cut_level (shape_of c.args.self.now.geometry) c.requires.low c.if-i-levels.false c.levels.ensures c.start.ensures c.hash_block.ensures c.requires.zeros
 
 pub climb-requires : goal.climb-requires
 climb-requires g t c κs within =
-    let s = shape_of c.args.self.now.geometry in
-    let low : c.args.i < levels s = omega (arith, c.requires.low, c.if-i-levels.false, c.levels.ensures) in
-    let above = c.split_at_mut-above.ensures.front ∙ cut_above s c.args.i (c.start.result * c.hash_block.result) c.args.tree.now low (ap₂ (λ x y. x * y) c.start.ensures c.hash_block.ensures) c.requires.zeros in
-    let below = c.fill_level.ensures ∙ ap (row (salted g.D.Digest.meaning c.args.self.now.salt.now) s c.args.self.now.image.now) (sym (add-one c.args.i)) in
+    let above =
+    c.split_at_mut-above.ensures.front ∙ cut_above (shape_of c.args.self.now.geometry) c.requires.low c.if-i-levels.false c.levels.ensures c.start.ensures c.hash_block.ensures c.requires.zeros in
+    let below = c.fill_level.ensures ∙ ap (row_of c.args.self.now) (sym (add-one c.args.i)) in
     search rules
 
 pub returns-else-i-levels-clause-tree : goal.returns-else-i-levels-clause-tree

@@ -1,13 +1,13 @@
 use Rattle.std.proofs.Common.{rules, ◌≡◌, ◌+◌, ◌*◌, ◌-◌, ◌≤◌, length, ap₂, arith}
 use Rattle.geometry.specs.Of.{shape_of}
+use Rattle.builder.proofs.Ready.{block_len_within}
 use Rattle.builder.proofs.Rows.{filling_starts, filling_room, filling_goes, filling_ends}
-use Rattle.builder.proofs.Sounds.{block_len_within}
 use Rattle.builder.proofs.job.Job.fill_level.Goals as goal
 
 pub loop-j-init : goal.loop-j-init
 loop-j-init g c =
     let job = c.args.self.now in
-    let starts = filling_starts job.ready.sound job.image.now job.ready.whole c.args.i c.block_len.result c.args.below.now c.args.slots.now c.block_len.ensures c.requires.below c.requires.zeros in
+    let starts = filling_starts job.ready c.block_len.ensures c.requires.below c.requires.zeros in
     let some = (block_len_within (shape_of job.geometry) job.geometry.limits c.args.i).0 in
     search rules
 
@@ -16,11 +16,8 @@ place : (g : _) (c : goal.After-block-1 g) → c.in-Some.j * c.slot-slot.result 
 place g c =
     let job = c.args.self.now in
     let step = c.in-Some.ensures.steps in
-    let some = c.loop-j.invariant.0.0 in
     let here : c.in-Some.j * c.slot-slot.result ≡ c.loop-j.j-iterator.count * (shape_of job.geometry).slot = ap₂ (λ x y. x * y) step.1 c.slot-slot.ensures in
-    let room = filling_room job.ready.sound job.image.now job.ready.whole c.args.i c.loop-j.j-iterator.count c.loop-j.j-iterator.iter.size c.loop-j.j-iterator.iter.rest.now c.loop-j.slots c.loop-j.invariant.2
-    c.in-Some.block.now c.next.new.self.iter.rest.now step.0.1.0 step.0.1.1 some in
-    omega (arith, here, room, c.output_len-size.ensures)
+    omega (arith, here, filling_room job.ready c.loop-j.invariant.2 c.in-Some.block.now c.next.new.self.iter.rest.now step.0.1.0 step.0.1.1 c.loop-j.invariant.0.0, c.output_len-size.ensures)
 
 pub overflow_mul-at : goal.overflow_mul-at
 overflow_mul-at g c = record { fits = omega (arith, place g c) }
@@ -33,23 +30,18 @@ slice_bounds-salted-end g c = let room = place g c in search rules
 
 pub salted-requires-clause-short : goal.salted-requires-clause-short
 salted-requires-clause-short g c =
-    let job = c.args.self.now in
-    omega (arith, c.in-Some.ensures.steps.0.1.1, c.loop-j.invariant.2.bytes, (block_len_within (shape_of job.geometry) job.geometry.limits c.args.i).1)
+    let g = c.args.self.now.geometry in
+    omega (arith, c.in-Some.ensures.steps.0.1.1, c.loop-j.invariant.2.bytes, (block_len_within (shape_of g) g.limits c.args.i).1)
 
 pub loop-j-preserved : goal.loop-j-preserved
 loop-j-preserved g c =
     let job = c.args.self.now in
     let step = c.in-Some.ensures.steps in
-    let some = c.loop-j.invariant.0.0 in
     let at = c.in-Some.j * c.slot-slot.result in
     let here : at ≡ c.loop-j.j-iterator.count * (shape_of job.geometry).slot = ap₂ (λ x y. x * y) step.1 c.slot-slot.ensures in
     let len : at + c.output_len-size.result - at ≡ g.D.Digest.size = omega (arith, c.output_len-size.ensures) in
-    let more = filling_goes job.ready.sound job.image.now job.ready.whole c.args.i c.loop-j.j-iterator.count c.loop-j.j-iterator.iter.size c.loop-j.j-iterator.iter.rest.now c.loop-j.slots c.loop-j.invariant.2
-    c.in-Some.block.now c.next.new.self.iter.rest.now step.0.1.0 step.0.1.1 some c.next.new.self.count c.next.new.self.iter.size at (at + c.output_len-size.result - at) c.salted.new.out step.2 step.0.0 here len c.salted.ensures in
+    let goes = filling_goes job.ready c.loop-j.invariant.2 c.in-Some.block.now c.next.new.self.iter.rest.now step.0.1.0 step.0.1.1 c.loop-j.invariant.0.0 step.2 step.0.0 here len c.salted.ensures in
     search rules
 
 pub returns : goal.returns
-returns g c =
-    let ready = c.args.self.now.ready in
-    let short = c.in-None.ensures.steps.0.1.0 in
-    filling_ends ready.sound c.args.self.now.image.now ready.whole c.args.i c.loop-j.j-iterator.count c.loop-j.j-iterator.iter.size c.loop-j.j-iterator.iter.rest.now c.loop-j.slots c.loop-j.invariant.2 short
+returns g c = filling_ends c.args.self.now.ready c.loop-j.invariant.2 c.in-None.ensures.steps.0.1.0

@@ -1,4 +1,4 @@
--- A shape within the limits, whose slot is the digest's size, has a tree.
+-- What the checks give: a shape within the limits, whose slot is the digest's size, has a tree.
 use Rattle.std.proofs.Common.{◌≡◌, ℕ, zero, suc, ◌*◌, ◌/◌, ◌%◌, ◌<◌, ◌≤◌, true, ◌&&◌, ◌||◌, eqb, leb, List, ◌++◌, length, sym, subst, inl, inr, arith}
 use Rattle.std.proofs.lemmas.Bool.{and_parts, or_cases, eqb-true, leb-true}
 use Rattle.tree.specs.Shape.{Shape, tree_blocks}
@@ -8,7 +8,7 @@ use Rattle.geometry.specs.Limits.{is_block_size, is_count, is_slot, within}
 use Rattle.geometry.proofs.Bounds.{bounds}
 use Rattle.builder.specs.Build.{shape_for, limits_met, lengths_fit}
 use Rattle.builder.specs.Ready.{Ready}
-use Rattle.builder.specs.Rows.{block_len}
+use Rattle.builder.specs.Parts.{block_len}
 
 whole : (n : ℕ) → is_block_size n ≡ true → n % 64 ≡ 0
 whole n h =
