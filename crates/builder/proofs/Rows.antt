@@ -30,6 +30,16 @@ wide_enough s pos i =
           omega arith
     ]
 
+-- a digest over the zeros behind a front
+over_slot : (front d : List ℕ) (at len r slot : ℕ) → length front ≡ at → length d ≡ len → len ≤ slot → slot ≤ r
+    → put_mid at len (front ++ replicate r 0) d ≡ (front ++ in_slot slot d) ++ replicate (r - slot) 0
+over_slot front d at len r slot here sized fits room =
+    let parts : r - len ≡ slot - length d + (r - slot) = omega arith in
+    ap₂ (λ xs ys. xs ++ (d ++ ys)) (take_at front (replicate r 0) at here)
+    (ap (drop len) (drop_at front (replicate r 0) at here) ∙ drop-replicate len r 0 ∙ ap (λ k. replicate k 0) parts ∙ sym (replicate-append-replicate (slot - length d) (r - slot) 0))
+    ∙ ap (λ xs. front ++ xs) (sym (append_assoc d (replicate (slot - length d) 0) (replicate (r - slot) 0)))
+    ∙ sym (append_assoc front (in_slot slot d) (replicate (r - slot) 0))
+
 -- the first j slots of level i
 abbrev slots : (List ℕ → List ℕ) → Shape → List ℕ → ℕ → ℕ → List ℕ
 slots h s image i j = flat_map (λ t. in_slot s.slot (h (node h s image i t))) (range_with_len 0 j)
@@ -91,23 +101,14 @@ module _ {meaning : List ℕ → List ℕ} {size : ℕ} {s : Shape} {image salt 
   filled_more : (i j : ℕ) (d : List ℕ) → j < width s i → d ≡ h (node h s image i j) → put_mid (j * s.slot) size (filled h s image i j) d ≡ filled h s image i (j + 1)
   unfolding filled
   filled_more i j d there made =
-      let at = j * s.slot in
-      let p = slots h s image i j in
-      let r = width s (suc i) * s.hash_block - j * s.slot in
-      let zeros : List ℕ = replicate r 0 in
-      let gap : List ℕ = replicate (s.slot - length d) 0 in
-      let left = r - s.slot in
       let lp = length-slots i j in
       let sized : length d ≡ size = ap length made ∙ ready.sound.sized (node h s image i j) in
       let fits = ready.sound.fits in
       let room = slots_room i in
       let behind = mul-le-mul_right s.slot there in
-      let parts : r - size ≡ s.slot - length d + left = omega arith in
-      let last : left ≡ width s (suc i) * s.hash_block - (j + 1) * s.slot = omega arith in
-      ap₂ (λ xs ys. xs ++ (d ++ ys)) (take_at p zeros at lp)
-      (ap (drop size) (drop_at p zeros at lp) ∙ drop-replicate size r 0 ∙ ap (λ k. replicate k 0) parts ∙ sym (replicate-append-replicate (s.slot - length d) left 0))
-      ∙ ap (λ xs. p ++ xs) (sym (append_assoc d gap (replicate left 0))) ∙ sym (append_assoc p (in_slot s.slot d) (replicate left 0))
-      ∙ ap₂ (λ xs k. xs ++ replicate k 0) (ap (λ y. p ++ in_slot s.slot y) made ∙ sym (joined_more (λ t. in_slot s.slot (h (node h s image i t))) j)) last
+      let last : level_len s i - j * s.slot - s.slot ≡ level_len s i - (j + 1) * s.slot = omega arith in
+      over_slot (slots h s image i j) d (j * s.slot) size (level_len s i - j * s.slot) s.slot lp sized fits (omega arith)
+      ∙ ap₂ (λ xs k. xs ++ replicate k 0) (ap (λ y. slots h s image i j ++ in_slot s.slot y) made ∙ sym (joined_more (λ t. in_slot s.slot (h (node h s image i t))) j)) last
 
   -- slot k of a level, or zeros past the last
   abbrev slot_at : ℕ → ℕ → List ℕ
