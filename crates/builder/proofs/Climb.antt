@@ -1,6 +1,6 @@
 -- From the levels below to the whole tree and its root.
 use Rattle.std.proofs.Common.{◌≡◌, ℕ, suc, ◌+◌, ◌-◌, ◌*◌, ◌<◌, ◌≤◌, List, ◌++◌, length, take, drop, replicate, sym, ap, ◌∙◌, ap₂, add-one, arith}
-use Rattle.std.proofs.lemmas.List.{append_assoc, append-nil, length-replicate, take_all, take-replicate, drop-replicate}
+use Rattle.std.proofs.lemmas.List.{append_assoc, append-nil, length-replicate, take_all, drop-replicate}
 use Rattle.tree.specs.Shape.{Shape, levels, width, blocks_from, start}
 use Rattle.tree.specs.Tree.{salted, node, level, lowest, tree, root}
 use Rattle.tree.proofs.Widths.{width_top}
@@ -25,11 +25,6 @@ module _ (s : Shape) {i top first bytes : ℕ} {buf : List ℕ} (low : i ≤ lev
 
   pub cut_inside : first * bytes ≤ length buf
   cut_inside = omega (arith, here, parts, ap length zeros ∙ length-replicate (len_from s i) 0)
-
-  pub cut_above : take (first * bytes) buf ≡ replicate (len_from s (i + 1)) 0
-  cut_above =
-      ap (take (first * bytes)) zeros ∙ take-replicate (first * bytes) (len_from s i) 0 (omega (arith, here, parts))
-      ∙ ap (λ k. replicate k 0) (here ∙ ap (len_from s) (sym (add-one i)))
 
   pub cut_level : drop (first * bytes) buf ≡ replicate (level_len s i) 0
   cut_level =

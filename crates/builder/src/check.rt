@@ -30,18 +30,18 @@ impl Source<'_> {
         ensures { Checked size self.now tree.now root.now result }
     {
         let geometry = self.geometry(size).ok_or(BuildFault::Limit)?;
-        if !fitting(&geometry, self.image, tree, root) {
+        if !self.fits(&geometry, tree, root) {
             return Err(BuildFault::Length);
         }
         Ok(geometry)
     }
-}
 
-// Whether the image is whole blocks, and the buffers are as long as what goes into them.
-fn fitting(g: &Geometry, image: &[u8], tree: &[u8], root: &[u8]) -> bool
-    ensures { result ≡ lengths_fit (shape_of g.now) image.now tree.now root.now }
-{
-    image.len() == g.blocks() * g.data_block()
-        && tree.len() == g.tree_len()
-        && root.len() == g.slot()
+    // Whether the image is whole blocks, and the buffers are as long as what goes into them.
+    fn fits(&self, g: &Geometry, tree: &[u8], root: &[u8]) -> bool
+        ensures { result ≡ lengths_fit (shape_of g.now) self.now.image.now tree.now root.now }
+    {
+        self.image.len() == g.blocks() * g.data_block()
+            && tree.len() == g.tree_len()
+            && root.len() == g.slot()
+    }
 }

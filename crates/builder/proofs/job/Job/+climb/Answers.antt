@@ -1,9 +1,8 @@
-use Rattle.std.proofs.Common.{rules, length, sym, ap, ◌∙◌, add-one, arith}
+use Rattle.std.proofs.Common.{length, ap, ◌∙◌, arith}
 use Rattle.geometry.specs.Of.{shape_of}
 use Rattle.tree.specs.Tree.{salted}
-use Rattle.builder.specs.Parts.{row_of}
 use Rattle.builder.proofs.Ready.{block_len_within}
-use Rattle.builder.proofs.Climb.{cut_inside, cut_above, cut_level, length-top, top_root, top_tree, tree_next}
+use Rattle.builder.proofs.Climb.{cut_inside, cut_level, length-top, top_root, top_tree, tree_next}
 use Rattle.builder.proofs.job.Job.+climb.Goals as goal
 
 pub salted-requires-clause-short : goal.salted-requires-clause-short
@@ -35,13 +34,6 @@ split_at_mut-above-requires g t c = cut_inside (shape_of c.args.self.now.geometr
 pub fill_level-requires-clause-zeros : goal.fill_level-requires-clause-zeros
 fill_level-requires-clause-zeros g t c =
     c.split_at_mut-above.ensures.back ∙ cut_level (shape_of c.args.self.now.geometry) c.requires.low c.if-i-levels.false c.levels.ensures c.start.ensures c.hash_block.ensures c.requires.zeros
-
-pub climb-requires : goal.climb-requires
-climb-requires g t c κs within =
-    let above =
-    c.split_at_mut-above.ensures.front ∙ cut_above (shape_of c.args.self.now.geometry) c.requires.low c.if-i-levels.false c.levels.ensures c.start.ensures c.hash_block.ensures c.requires.zeros in
-    let below = c.fill_level.ensures ∙ ap (row_of c.args.self.now) (sym (add-one c.args.i)) in
-    search rules
 
 pub returns-else-i-levels-clause-tree : goal.returns-else-i-levels-clause-tree
 returns-else-i-levels-clause-tree g t c = tree_next _ _ _ _ _ _ c.climb.ensures.tree c.fill_level.ensures

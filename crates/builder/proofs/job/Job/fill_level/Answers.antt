@@ -1,4 +1,4 @@
-use Rattle.std.proofs.Common.{rules, ◌≡◌, ◌+◌, ◌*◌, ◌-◌, ◌≤◌, length, ap₂, arith}
+use Rattle.std.proofs.Common.{rules, ◌≡◌, ◌+◌, ◌*◌, ◌-◌, ap₂, arith}
 use Rattle.geometry.specs.Of.{shape_of}
 use Rattle.builder.proofs.Ready.{block_len_within}
 use Rattle.builder.proofs.Rows.{filling_starts, filling_room, filling_goes, filling_ends}
@@ -11,27 +11,13 @@ loop-j-init g c =
     let some = (block_len_within (shape_of job.geometry) job.geometry.limits c.args.i).0 in
     search rules
 
--- the slot of the next block lies in the level
-place : (g : _) (c : goal.After-block-1 g) → c.in-Some.j * c.slot-slot.result + c.output_len-size.result ≤ length c.loop-j.slots
-place g c =
+pub slice_bounds-salted-end : goal.slice_bounds-salted-end
+slice_bounds-salted-end g c =
     let job = c.args.self.now in
     let step = c.in-Some.ensures.steps in
     let here : c.in-Some.j * c.slot-slot.result ≡ c.loop-j.j-iterator.count * (shape_of job.geometry).slot = ap₂ (λ x y. x * y) step.1 c.slot-slot.ensures in
-    omega (arith, here, filling_room job.ready c.loop-j.invariant.2 c.in-Some.block.now c.next.new.self.iter.rest.now step.0.1.0 step.0.1.1 c.loop-j.invariant.0.0, c.output_len-size.ensures)
-
-pub overflow_mul-at : goal.overflow_mul-at
-overflow_mul-at g c = record { fits = omega (arith, place g c) }
-
-pub overflow_add-at : goal.overflow_add-at
-overflow_add-at g c = record { fits = omega (arith, place g c) }
-
-pub slice_bounds-salted-end : goal.slice_bounds-salted-end
-slice_bounds-salted-end g c = let room = place g c in search rules
-
-pub salted-requires-clause-short : goal.salted-requires-clause-short
-salted-requires-clause-short g c =
-    let g = c.args.self.now.geometry in
-    omega (arith, c.in-Some.ensures.steps.0.1.1, c.loop-j.invariant.2.bytes, (block_len_within (shape_of g) g.limits c.args.i).1)
+    let room = filling_room job.ready c.loop-j.invariant.2 c.in-Some.block.now c.next.new.self.iter.rest.now step.0.1.0 step.0.1.1 c.loop-j.invariant.0.0 in
+    search rules
 
 pub loop-j-preserved : goal.loop-j-preserved
 loop-j-preserved g c =
