@@ -15,6 +15,7 @@ impl<D: Digest> Job<'_, D> {
         requires room { length out.old ≡ D.size }
         ensures { out.new ≡ salted_by D.meaning self.now.salt.now block.now }
     {
+        // The lengths fit, so it is not refused.
         let _ = self.digest.digest(self.salt, block, out);
     }
 
@@ -55,8 +56,8 @@ impl<D: Digest> Job<'_, D> {
         if i == self.geometry.levels() {
             self.salted(below, root);
         } else {
-            let above = self.geometry.start(i) * self.geometry.hash_block();
-            let (above, level) = tree.split_at_mut(above);
+            let start = self.geometry.start(i) * self.geometry.hash_block();
+            let (above, level) = tree.split_at_mut(start);
             self.fill_level(i, below, level);
             self.climb(i + 1, level, above, root);
         }

@@ -23,8 +23,8 @@ returns-then-i-levels-clause-root g t c =
     let job = c.args.self.now in
     c.salted.ensures ∙ ap (salted g.D.Digest.meaning job.salt.now) c.requires.below ∙ top_root job.ready (c.if-i-levels.true ∙ c.levels.ensures)
 
-pub overflow_mul-above : goal.overflow_mul-above
-overflow_mul-above g t c =
+pub overflow_mul-start : goal.overflow_mul-start
+overflow_mul-start g t c =
     let inside = cut_inside (shape_of c.args.self.now.geometry) c.requires.low c.if-i-levels.false c.levels.ensures c.start.ensures c.hash_block.ensures c.requires.zeros in
     record { fits = omega (arith, inside) }
 

@@ -1,22 +1,17 @@
 use Rattle.std.proofs.Common.{rules, ◌≡◌, ◌+◌, ◌*◌, ◌-◌, ap₂, arith}
 use Rattle.geometry.specs.Of.{shape_of}
-use Rattle.builder.proofs.Ready.{block_len_within}
 use Rattle.builder.proofs.Rows.{filling_starts, filling_room, filling_goes, filling_ends}
 use Rattle.builder.proofs.job.Job.fill_level.Goals as goal
 
 pub loop-j-init : goal.loop-j-init
 loop-j-init g c =
-    let job = c.args.self.now in
-    let starts = filling_starts job.ready c.block_len.ensures c.requires.below c.requires.zeros in
-    let some = (block_len_within (shape_of job.geometry) job.geometry.limits c.args.i).0 in
+    let starts = filling_starts c.args.self.now.ready c.block_len.ensures c.requires.below c.requires.zeros in
     search rules
 
 pub slice_bounds-salted-end : goal.slice_bounds-salted-end
 slice_bounds-salted-end g c =
-    let job = c.args.self.now in
     let step = c.in-Some.ensures.steps in
-    let here : c.in-Some.j * c.slot-slot.result ≡ c.loop-j.j-iterator.count * (shape_of job.geometry).slot = ap₂ (λ x y. x * y) step.1 c.slot-slot.ensures in
-    let room = filling_room job.ready c.loop-j.invariant.2 c.in-Some.block.now c.next.new.self.iter.rest.now step.0.1.0 step.0.1.1 c.loop-j.invariant.0.0 in
+    let room = filling_room c.args.self.now.ready c.loop-j.invariant.2 c.in-Some.block.now c.next.new.self.iter.rest.now step.0.1.0 step.0.1.1 c.loop-j.invariant.0.0 in
     search rules
 
 pub loop-j-preserved : goal.loop-j-preserved
