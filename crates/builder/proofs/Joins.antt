@@ -1,18 +1,19 @@
 -- Pieces joined over a row of numbers.
-use Rattle.std.proofs.Common.{◌≡◌, ℕ, zero, suc, ◌+◌, ◌*◌, ◌<◌, ◌≤◌, List, ◌++◌, replicate, sym, refl, ap, ◌∙◌, ap₂, add-zero, zero-add, arith}
+use Rattle.std.proofs.Common.{◌≡◌, ℕ, zero, suc, ◌+◌, ◌*◌, ◌<◌, ◌≤◌, List, ◌∷◌, ◌++◌, replicate, sym, refl, ap, ◌∙◌, ap₂, add-zero, zero-add, arith}
 use Rattle.std.specs.List.{range_with_len, flat_map}
-use Rattle.std.proofs.lemmas.List.{append_assoc, append-nil, replicate-append-replicate}
+use Rattle.std.proofs.lemmas.Grind.{flat_map-append}
+use Rattle.std.proofs.lemmas.List.{append-nil, replicate-append-replicate}
+
+range_split : (m n a : ℕ) → range_with_len a (m + n) ≡ range_with_len a m ++ range_with_len (a + m) n
+range_split zero n a = ap₂ range_with_len (sym (add-zero a)) (zero-add n)
+range_split (suc m) n a =
+    let more : suc m + n ≡ suc (m + n) = omega arith in
+    let last : a + 1 + m ≡ a + suc m = omega arith in
+    ap (range_with_len a) more ∙ ap (λ xs. a ∷ xs) (range_split m n (a + 1) ∙ ap (λ b. range_with_len (a + 1) m ++ range_with_len b n) last)
 
 module _ (f : ℕ → List ℕ) where
   pub joined_split : (m n a : ℕ) → flat_map f (range_with_len a (m + n)) ≡ flat_map f (range_with_len a m) ++ flat_map f (range_with_len (a + m) n)
-  joined_split zero n a = ap₂ (λ b k. flat_map f (range_with_len b k)) (sym (add-zero a)) (zero-add n)
-  joined_split (suc m) n a =
-      let rest = flat_map f (range_with_len (a + 1) m) in
-      let more : suc m + n ≡ suc (m + n) = omega arith in
-      let last : a + 1 + m ≡ a + suc m = omega arith in
-      ap (λ k. flat_map f (range_with_len a k)) more
-      ∙ ap (λ xs. f a ++ xs) (joined_split m n (a + 1) ∙ ap (λ b. rest ++ flat_map f (range_with_len b n)) last)
-      ∙ sym (append_assoc (f a) rest (flat_map f (range_with_len (a + suc m) n)))
+  joined_split m n a = ap (flat_map f) (range_split m n a) ∙ flat_map-append f (range_with_len a m) (range_with_len (a + m) n)
 
   pub joined_more : (n : ℕ) → flat_map f (range_with_len 0 (n + 1)) ≡ flat_map f (range_with_len 0 n) ++ f n
   joined_more n = joined_split n 1 0 ∙ ap (λ xs. flat_map f (range_with_len 0 n) ++ xs) (append-nil (f (0 + n)) ∙ ap f (zero-add n))

@@ -1,5 +1,4 @@
+pub mod Ready
 pub mod Joins
-pub mod Flat
-pub mod Sounds
-pub mod Stages
-pub mod Accepted
+pub mod Rows
+pub mod Climb

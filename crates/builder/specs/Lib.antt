@@ -1,2 +1,4 @@
 pub mod Build
-pub mod Stages
+pub mod Check
+pub mod Ready
+pub mod Parts

@@ -7,19 +7,16 @@ use std::fmt;
 #[derive(Clone, Copy, PartialEq, Eq, Debug)]
 pub enum BuildFault {
     // A block size, the number of blocks or the salt is outside its limit.
-    Limit,
+    Limit = 2,
     // The image is not whole blocks, or a buffer has not the length of what goes into it.
-    Length,
+    Length = 3,
 }
 
 impl BuildFault {
     pub fn number(self) -> u8
         ensures { result ≡ number_of self }
     {
-        match self {
-            BuildFault::Limit => 2,
-            BuildFault::Length => 3,
-        }
+        self as u8
     }
 }
 

@@ -1,115 +1,65 @@
 // Filling a tree level by level, from the data up.
-ghost use Rattle.std.specs.Prelude.{◌≡◌, ◌+◌, ◌*◌, ◌<◌, ◌≤◌, ◌++◌, length};
-ghost use Rattle.builder.specs.Stages.{below, Inside, over, partly, Ready, stage};
-ghost use Rattle.geometry.specs.Of.{shape_of};
-ghost use Rattle.tree.specs.Shape.{levels as levels_of, tree_blocks as tree_blocks_of, width as width_of};
-ghost use Rattle.tree.specs.Tree.{salted as salted_by, tree as tree_of};
-
+use crate::job::Job;
 use digest::Digest;
-use geometry::Geometry;
 
-// The digest of the salt followed by a block.
-fn salted<D: Digest>(digest: &D, salt: &[u8], block: &[u8], out: &mut [u8])
-    requires short { length salt.now + length block.now ≤ 4352 }
-    requires room { length out.old ≡ D.LEN }
-    ensures { out.new ≡ D.meaning (salt.now ++ block.now) }
-{
-    let _ = digest.digest(salt, block, out);
-}
+impl<D: Digest> Job<'_, D> {
+    ghost use Rattle.std.specs.Prelude.{◌≡◌, ◌≤◌, ◌++◌, length, replicate};
+    ghost use Rattle.builder.specs.Parts.{block_len, len_from, level_len, level_of, lowest_of, root_of, row_of, tree_of};
+    ghost use Rattle.geometry.specs.Of.{shape_of};
+    ghost use Rattle.tree.specs.Shape.{levels as levels_of};
+    ghost use Rattle.tree.specs.Tree.{salted as salted_by};
 
-// The salted digest of block `j`, `i` steps above the data; a tree block is read from the tree.
-pub(crate) fn digest_node<D: Digest>(
-    digest: &D,
-    g: &Geometry,
-    image: &[u8],
-    salt: &[u8],
-    tree: &[u8],
-    i: usize,
-    j: usize,
-    out: &mut [u8],
-)
-    requires ready { Ready D.LEN (shape_of g.now) image.now salt.now }
-    requires inside { Inside (shape_of g.now) image.now tree.now i j }
-    requires room { length out.old ≡ D.LEN }
-    ensures { out.new ≡ salted_by D.meaning salt.now (below (shape_of g.now) image.now tree.now i j) }
-{
-    if i == 0 {
-        let n = g.data_block();
-        salted(digest, salt, &image[j * n..j * n + n], out);
-    } else {
-        let n = g.hash_block();
-        let at = (g.start(i - 1) + j) * n;
-        salted(digest, salt, &tree[at..at + n], out);
+    // The digest of the salt followed by a block.
+    fn salted(&self, block: &[u8], out: &mut [u8])
+        requires short { length block.now ≤ 4096 }
+        requires room { length out.old ≡ D.LEN }
+        ensures { out.new ≡ salted_by D.meaning self.now.salt.now block.now }
+    {
+        // The lengths fit, so it is not refused.
+        let _ = self.digest.digest(self.salt, block, out);
     }
-}
 
-// Writes the bytes at a place.
-fn put(tree: &mut [u8], at: usize, bytes: &[u8])
-    requires { at + length bytes.now ≤ length tree.old }
-    ensures { tree.new ≡ over at bytes.now tree.old }
-{
-    tree[at..at + bytes.len()].copy_from_slice(bytes);
-}
-
-// Fills slot `j` of level `i`, behind those before it.
-fn fill_slot<D: Digest>(
-    digest: &D,
-    g: &Geometry,
-    image: &[u8],
-    salt: &[u8],
-    tree: &mut [u8],
-    i: usize,
-    j: usize,
-    scratch: &mut [u8],
-)
-    requires ready { Ready D.LEN (shape_of g.now) image.now salt.now }
-    requires low { i < levels_of (shape_of g.now) }
-    requires there { j < width_of (shape_of g.now) i }
-    requires before { tree.old ≡ partly (salted_by D.meaning salt.now) (shape_of g.now) image.now i j }
-    requires room { length scratch.old ≡ D.LEN }
-    ensures { tree.new ≡ partly (salted_by D.meaning salt.now) (shape_of g.now) image.now i (j + 1) }
-{
-    digest_node(digest, g, image, salt, tree, i, j, scratch);
-    put(tree, g.start(i) * g.hash_block() + j * g.slot(), scratch);
-}
-
-// Fills level `i` over the levels below it.
-fn fill_level<D: Digest>(
-    digest: &D,
-    g: &Geometry,
-    image: &[u8],
-    salt: &[u8],
-    tree: &mut [u8],
-    i: usize,
-    scratch: &mut [u8],
-)
-    requires ready { Ready D.LEN (shape_of g.now) image.now salt.now }
-    requires low { i < levels_of (shape_of g.now) }
-    requires before { tree.old ≡ stage (salted_by D.meaning salt.now) (shape_of g.now) image.now i }
-    requires room { length scratch.old ≡ D.LEN }
-    ensures { tree.new ≡ stage (salted_by D.meaning salt.now) (shape_of g.now) image.now (i + 1) }
-{
-    for j in 0..g.width(i) {
-        fill_slot(digest, g, image, salt, tree, i, j, scratch);
+    // Bytes of a block, so many steps above the data.
+    fn block_len(&self, steps: usize) -> usize
+        ensures { result ≡ block_len (shape_of self.now.geometry) steps }
+    {
+        if steps == 0 {
+            self.geometry.data_block()
+        } else {
+            self.geometry.hash_block()
+        }
     }
-}
 
-// Writes the whole tree, by way of a scratch buffer of one digest.
-pub(crate) fn fill_tree<D: Digest>(
-    digest: &D,
-    g: &Geometry,
-    image: &[u8],
-    salt: &[u8],
-    tree: &mut [u8],
-    scratch: &mut [u8],
-)
-    requires ready { Ready D.LEN (shape_of g.now) image.now salt.now }
-    requires whole { length tree.old ≡ tree_blocks_of (shape_of g.now) * (shape_of g.now).hash_block }
-    requires room { length scratch.old ≡ D.LEN }
-    ensures { tree.new ≡ tree_of (salted_by D.meaning salt.now) (shape_of g.now) image.now }
-{
-    tree.fill(0);
-    for i in 0..g.levels() {
-        fill_level(digest, g, image, salt, tree, i, scratch);
+    // Fills level `i`, which is zeros, over the row of blocks below it.
+    fn fill_level(&self, i: usize, below: &[u8], slots: &mut [u8])
+        requires below { below.now ≡ row_of self.now i }
+        requires zeros { slots.old ≡ replicate (level_len (shape_of self.now.geometry) i) 0 }
+        ensures { slots.new ≡ level_of self.now i }
+    {
+        let slot = self.geometry.slot();
+        let size = self.digest.output_len();
+        for (j, block) in below.chunks_exact(self.block_len(i)).enumerate() {
+            let at = j * slot;
+            self.salted(block, &mut slots[at..at + size]);
+        }
+    }
+
+    // Fills the levels from `i` up, which are zeros, over the row of blocks below them, and writes the root.
+    pub(crate) fn climb(&self, i: usize, below: &[u8], tree: &mut [u8], root: &mut [u8])
+        requires low { i ≤ levels_of (shape_of self.now.geometry) }
+        requires below { below.now ≡ row_of self.now i }
+        requires zeros { tree.old ≡ replicate (len_from (shape_of self.now.geometry) i) 0 }
+        requires room { length root.old ≡ D.LEN }
+        ensures tree { tree_of self.now ≡ tree.new ++ lowest_of self.now i }
+        ensures root { root.new ≡ root_of self.now }
+    {
+        if i == self.geometry.levels() {
+            self.salted(below, root);
+        } else {
+            let start = self.geometry.start(i) * self.geometry.hash_block();
+            let (above, level) = tree.split_at_mut(start);
+            self.fill_level(i, below, level);
+            self.climb(i + 1, level, above, root);
+        }
     }
 }

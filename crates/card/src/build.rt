@@ -3,7 +3,7 @@ ghost use Rattle.std.specs.Prelude.{◌≡◌, ℕ, ◌+◌, ◌%◌, OnOk, IsEr
 
 use crate::fault::Fault;
 use crate::options::{Build, BuildOptions};
-use builder::{BuildFault, build};
+use builder::{BuildFault, Source, build};
 use digest::{Digest, Sha256, Sha512};
 use geometry::{Geometry, SALT_LIMIT};
 use std::fs;
@@ -58,16 +58,13 @@ fn make<D: Digest>(
     let geometry = geometry_of(options, image.len(), size)?;
     let mut tree = vec![in heap; 0u8; geometry.tree_len()]?;
     let mut root = vec![in heap; 0u8; size]?;
-    build(
-        digest,
+    let source = Source {
         image,
-        options.data_block,
-        options.hash_block,
-        options.salt.as_slice(),
-        tree.as_mut_slice(),
-        root.as_mut_slice(),
-    )
-    .map_err(NoTree::Refused)?;
+        data_block: options.data_block,
+        hash_block: options.hash_block,
+        salt: options.salt.as_slice(),
+    };
+    build(digest, &source, tree.as_mut_slice(), root.as_mut_slice()).map_err(NoTree::Refused)?;
     Ok(Built {
         geometry,
         tree,

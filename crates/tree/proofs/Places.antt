@@ -49,7 +49,7 @@ module _ (h : List ℕ → List ℕ) (s : Shape) (size : ℕ) (sound : Sound h s
       ap₂ (λ k n. drop k (lowest h s image n)) far (add-suc (suc i) d)
       ∙ sym (drop-drop (b * s.hash_block) w (top ++ rest)) ∙ ap (drop (b * s.hash_block)) (drop_at top rest w (length-level m)) ∙ behind i d
 
-  in_level : (i j : ℕ) (more : List ℕ) → j < width s (suc i) → block_of s.hash_block (level h s image i ++ more) j ≡ node h s image (suc i) j
+  pub in_level : (i j : ℕ) (more : List ℕ) → j < width s (suc i) → block_of s.hash_block (level h s image i ++ more) j ≡ node h s image (suc i) j
   unfolding level
   in_level i j more there =
       let b = s.hash_block in

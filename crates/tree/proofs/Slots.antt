@@ -15,7 +15,7 @@ abbrev slot_of : (List ℕ → List ℕ) → Shape → List ℕ → ℕ → ℕ 
 slot_of h s image i j t =
     cond (ltb (j * fanout s + t) (width s i)) (in_slot s.slot (h (node h s image i (j * fanout s + t)))) (replicate s.slot 0)
 
-length-in_slot : (slot size : ℕ) (d : List ℕ) → length d ≡ size → size ≤ slot → length (in_slot slot d) ≡ slot
+pub length-in_slot : (slot size : ℕ) (d : List ℕ) → length d ≡ size → size ≤ slot → length (in_slot slot d) ≡ slot
 length-in_slot slot size d long fits =
     let rest : List ℕ = replicate (slot - length d) 0 in
     let zeros : length rest ≡ slot - length d = length-replicate (slot - length d) 0 in

@@ -5,7 +5,7 @@ mod card;
 mod outcome;
 
 use anyhow::ensure;
-use builder::build;
+use builder::{Source, build};
 use card::Card;
 use digest::{Digest, Sha256, Sha512};
 use outcome::Outcome;
@@ -19,15 +19,13 @@ fn rebuild<D: Digest>(rt: &HostRuntime, digest: &D, card: &Card) -> anyhow::Resu
     let made = fs::read(rt, format!(in heap; "{name}.tree")?)?;
     let mut tree = vec![in heap; 0u8; made.len()]?;
     let mut root = vec![in heap; 0u8; digest.output_len()]?;
-    let built = build(
-        digest,
-        image.as_slice(),
-        card.data_block,
-        card.hash_block,
-        card.salt,
-        tree.as_mut_slice(),
-        root.as_mut_slice(),
-    );
+    let source = Source {
+        image: image.as_slice(),
+        data_block: card.data_block,
+        hash_block: card.hash_block,
+        salt: card.salt,
+    };
+    let built = build(digest, &source, tree.as_mut_slice(), root.as_mut_slice());
     Ok(match built {
         Ok(()) => Outcome::of(tree.as_slice(), made.as_slice(), root.as_slice(), card.root),
         Err(fault) => Outcome::Refused(fault),
