@@ -1,5 +1,5 @@
 // The digest functions that a program can name.
-ghost use Rattle.std.specs.Prelude.{◌≡◌, ◌+◌, ◌≤◌, ◌++◌, IfOk, OnOk, Some, length, string_bytes};
+ghost use Rattle.std.specs.Prelude.{◌≡◌, ◌+◌, ◌<◌, ◌≤◌, ◌++◌, IfOk, OnOk, IsErrOf, Some, length, string_bytes};
 ghost use Rattle.std.specs.Result.{result_ok};
 ghost use Rattle.text.specs.Hex.{hex_of};
 ghost use Rattle.text.specs.Name.{name_of, named};
@@ -27,9 +27,9 @@ pub struct UnknownFunction;
 #[derive(Debug, Drop, Error)]
 pub enum Unhashed {
     #[error("refused for its length")]
-    Refused(#[from] Refusal),
+    Refused(Refusal),
     #[error(transparent)]
-    Memory(#[from(alloc)] AllocError),
+    Memory(AllocError),
 }
 
 impl Function {
@@ -39,12 +39,13 @@ impl Function {
     pub fn hex(self, heap: Global, first: &[u8], second: &[u8]) -> Result<String, Unhashed>
         ensures hex { IfOk result (λ s. string_bytes s ≡ hex_of (sum_of self (first.now ++ second.now))) }
         ensures within { OnOk result (length first.now + length second.now ≤ 4352) }
+        ensures refused { (why : _) → IsErrOf result (Unhashed.Refused why) → 4352 < length first.now + length second.now }
     {
         let digest = match self {
             Function::Sha256 => digest_of(heap, &Sha256, first, second)?,
             Function::Sha512 => digest_of(heap, &Sha512, first, second)?,
         };
-        Ok(hex(heap, digest.as_slice())?)
+        hex(heap, digest.as_slice()).map_err(Unhashed::Memory)
     }
 }
 
@@ -82,8 +83,11 @@ fn digest_of<D: Digest>(
 ) -> Result<Vec<u8>, Unhashed>
     ensures value { IfOk result (λ v. v.items ≡ D.meaning (first.now ++ second.now)) }
     ensures within { OnOk result (length first.now + length second.now ≤ 4352) }
+    ensures refused { (why : _) → IsErrOf result (Unhashed.Refused why) → 4352 < length first.now + length second.now }
 {
-    let mut out = vec![in heap; 0u8; digest.output_len()]?;
-    digest.digest(first, second, out.as_mut_slice())?;
+    let mut out = vec![in heap; 0u8; digest.output_len()].map_err(Unhashed::Memory)?;
+    digest
+        .digest(first, second, out.as_mut_slice())
+        .map_err(Unhashed::Refused)?;
     Ok(out)
 }
