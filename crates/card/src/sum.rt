@@ -43,7 +43,7 @@ fn read_whole(rt: &HostRuntime, name: &str) -> Result<Vec<u8>, NoSum>
 
 fn sum(rt: &HostRuntime, function: Function, name: &str) -> Result<String, NoSum> {
     let bytes = read_whole(rt, name)?;
-    Ok(function.hex(rt.alloc(), bytes.as_slice(), b"")?)
+    Ok(function.hex(rt.alloc(), b"", bytes.as_slice())?)
 }
 
 // Prints the sum of each file that has one, and for each other file a line on standard error.
