@@ -38,6 +38,7 @@ impl<D: Digest> Job<'_, D> {
     {
         let slot = self.geometry.slot();
         let size = self.digest.output_len();
+        // by index: after a loop over the slots' chunks nothing is known of the bytes
         for (j, block) in below.chunks_exact(self.block_len(i)).enumerate() {
             let at = j * slot;
             self.salted(block, &mut slots[at..at + size]);

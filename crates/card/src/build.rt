@@ -110,6 +110,7 @@ fn print_label(rt: &HostRuntime, options: &BuildOptions, built: &Built) -> Resul
 pub fn build_tree(rt: &HostRuntime, asked: Build) -> Result<(), Fault> {
     let options = asked.options;
     let image = read_image(rt, asked.image)?;
+    // a closure cannot be generic over the digest
     let made = match options.function {
         Function::Sha256 => make(rt, &Sha256, &options, image.as_slice())?,
         Function::Sha512 => make(rt, &Sha512, &options, image.as_slice())?,

@@ -19,7 +19,7 @@ fn word<W: Word>(block: &[u8], i: usize) -> W
     W::read(&block[i * W::size()..])
 }
 
-// The sixteen words of a block.
+// The sixteen words of a block, by name as `Words` has them.
 #[tactic(auto, using(crate::proofs::Blocks::block_is))]
 fn words<W: Word>(block: &[u8]) -> Words<W>
     requires { 16 * (W.variant.bits / 8) ≤ length block.now }
@@ -49,6 +49,7 @@ fn words<W: Word>(block: &[u8]) -> Words<W>
 fn digested<W: Word>(start: State<W>, message: &Message<'_>) -> State<W>
     ensures { eight W.value result ≡ last_state W.variant (eight W.value start) (joined message.now) }
 {
+    // room for the longest padded message, since there is no heap here
     let mut buf = [0u8; 4480];
     let mut state = start;
     for block in message.pad::<W>(&mut buf).chunks_exact(16 * W::size()) {
@@ -83,7 +84,8 @@ fn put_word<W: Word>(out: &mut [u8; 64], at: usize, w: W)
     w.write(&mut out[at..at + W::size()]);
 }
 
-// The bytes of a state; those past them are zeros.
+// The bytes of a state; those past them are zeros. Word by word: an array of a type parameter can only be gone over
+// as a `Vec`, and there is no heap here.
 #[tactic(auto, using(crate::proofs::Output::eight_writes))]
 fn state_bytes<W: Word>(s: State<W>) -> [u8; 64]
     ensures { take W.variant.bits result ≡ state_bytes W.variant (eight W.value s) }

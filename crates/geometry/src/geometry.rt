@@ -12,6 +12,7 @@ pub struct Geometry {
     pub(crate) slot: usize,
     pub(crate) spread: Spread,
     pub(crate) levels: usize,
+    // no heap: there are at most seven levels, and 0 stands past the last
     pub(crate) starts: [usize; 7],
     ghost limits: { within (shape data_block hash_block spread.blocks slot) ≡ true },
     ghost fan: { spread.fanout ≡ fanout_of (shape data_block hash_block spread.blocks slot) },

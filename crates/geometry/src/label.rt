@@ -1,7 +1,7 @@
 // A label, as a caller gives it: numbers of any value, and strings of any length.
 #[derive(Clone, Copy)]
 pub struct Label<'a> {
-    // The number of the digest function.
+    // The number of the digest function, or any other number, which is refused and not ruled out by a type.
     pub digest: u32,
     // Bytes of a data block, and of a tree block.
     pub data_block: u32,

@@ -48,6 +48,7 @@ impl Spread {
     {
         let mut starts = [0; 7];
         let mut total = 0;
+        // by the level's number: its width needs it too, so an iterator over the array would have to bring it back
         for i in (0..levels).rev() {
             starts[i] = total;
             total += self.width(i as u32 + 1);

@@ -7,7 +7,7 @@ ghost use Rattle.sha2_block.specs.Window.{LeadsTo, eight, shifted, sixteen};
 use crate::word::Word;
 use constants::round_constants;
 
-// The eight words of a state.
+// The eight words of a state, by name: a struct of a type parameter has no array of it.
 #[derive(Clone, Copy)]
 pub struct State<W> {
     pub a: W,
@@ -48,6 +48,7 @@ struct Work<W> {
     window: Words<W>,
 }
 
+// That a round's number is below 80 is said here and of each step: a type for it would be made and opened again at each.
 fn constant<W: Word>(t: usize) -> W
     requires { t < 80 }
     ensures { W.value result ≡ slice_index W.variant.constants t }
@@ -120,7 +121,8 @@ fn step<W: Word, const I: usize, const LAST: bool>(work: Work<W>, t: usize) -> W
     }
 }
 
-// Sixteen rounds from round `t` on. Of the last turn no window is used, and the compiler leaves it out.
+// Sixteen rounds from round `t` on, written out: a loop over them took nearly twice as long. Of the last turn no
+// window is used, and the compiler leaves it out.
 fn turn<W: Word, const LAST: bool>(work: Work<W>, t: usize) -> Work<W>
     requires { t + 16 ≤ 80 }
     ensures { LeadsTo W.variant t 16 (sixteen W.value work.window) (eight W.value work.state) (sixteen W.value result.window) (eight W.value result.state) }

@@ -31,6 +31,8 @@ impl Word for u32 {
         self.wrapping_add(other)
     }
 
+    // Σ and σ are the standard's lines, with this word's numbers. One text for both words would have the numbers
+    // as constants, and laws that tie them to the variant.
     fn big_sigma0(self) -> u32 {
         self.rotate_right(2) ^ self.rotate_right(13) ^ self.rotate_right(22)
     }
@@ -48,6 +50,8 @@ impl Word for u32 {
         self.rotate_right(17) ^ self.rotate_right(19) ^ (self >> 10)
     }
 
+    // Equal to the standard's form below 2^32 alone, which no law of a trait can say of a word; in the standard's
+    // form, as one text, it was slower.
     fn choice(self, y: u32, z: u32) -> u32 {
         z ^ (self & (y ^ z))
     }

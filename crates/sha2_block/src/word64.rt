@@ -31,6 +31,8 @@ impl Word for u64 {
         self.wrapping_add(other)
     }
 
+    // Σ and σ are the standard's lines, with this word's numbers. One text for both words would have the numbers
+    // as constants, and laws that tie them to the variant.
     fn big_sigma0(self) -> u64 {
         self.rotate_right(28) ^ self.rotate_right(34) ^ self.rotate_right(39)
     }
@@ -48,6 +50,8 @@ impl Word for u64 {
         self.rotate_right(19) ^ self.rotate_right(61) ^ (self >> 6)
     }
 
+    // Equal to the standard's form below 2^64 alone, which no law of a trait can say of a word; in the standard's
+    // form, as one text, it was slower.
     fn choice(self, y: u64, z: u64) -> u64 {
         z ^ (self & (y ^ z))
     }

@@ -41,6 +41,7 @@ impl Function {
         ensures within { OnOk result (length first.now + length second.now ≤ 4352) }
         ensures refused { (why : _) → IsErrOf result (Unhashed.Refused why) → 4352 < length first.now + length second.now }
     {
+        // a closure cannot be generic over the digest
         let digest = match self {
             Function::Sha256 => digest_of(heap, &Sha256, first, second)?,
             Function::Sha512 => digest_of(heap, &Sha512, first, second)?,

@@ -34,6 +34,7 @@ fn rebuild<D: Digest>(rt: &HostRuntime, digest: &D, card: &Card) -> anyhow::Resu
 
 // Prints what became of the card's tree and root; whether they are as they were.
 fn compare(rt: &HostRuntime, card: &Card) -> anyhow::Result<bool> {
+    // a closure cannot be generic over the digest
     let outcome = match card.function {
         Function::Sha256 => rebuild(rt, &Sha256, card)?,
         Function::Sha512 => rebuild(rt, &Sha512, card)?,
