@@ -4,6 +4,7 @@ use Rattle.std.specs.Bool.{then_some}
 use Rattle.std.specs.Option.{option_map}
 use Rattle.std.proofs.lemmas.List.{append-nil, take_rest}
 use Rattle.std.proofs.lemmas.Bool.Decides.{nat_tests}
+use Rattle.text.specs.Laws.{DigitsStand}
 use Rattle.text.specs.Hex.{before, byte_of, digit_of, digit_value, hex_of, unhex_of}
 
 -- the first two digits, and the rest
@@ -47,7 +48,10 @@ byte_of-two_digits b h =
     rw (digit_value-digit_of (b / 16) high, digit_value-digit_of (b % 16) low) (ap Some whole)
 
 -- the bytes of their own digits
-pub unhex_of-hex_of : (bytes : List ℕ) → ((i : ℕ) → get_or bytes i 0 < 256) → unhex_of (hex_of bytes) ≡ Some bytes
+unhex_of-hex_of : (bytes : List ℕ) → ((i : ℕ) → get_or bytes i 0 < 256) → unhex_of (hex_of bytes) ≡ Some bytes
 unfolding unhex_of
 unhex_of-hex_of [] h = refl
 unhex_of-hex_of (b ∷ rest) h = rw (byte_of-two_digits b (h 0), unhex_of-hex_of rest (λ i. h (suc i)))
+
+pub digits_stand_lem : DigitsStand
+digits_stand_lem = unhex_of-hex_of

@@ -1,3 +1,4 @@
 pub mod Hex
+pub mod Laws
 pub mod Name
 pub mod Sum
