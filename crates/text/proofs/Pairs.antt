@@ -1,8 +1,7 @@
 -- Pairs of digits, read one at a time; and that reading undoes writing.
-use Rattle.std.proofs.Common.{◌≡◌, ℕ, suc, ◌+◌, ◌-◌, ◌*◌, ◌/◌, ◌%◌, ◌<◌, ◌≤◌, ◌==◌, List, [], ◌∷◌, ◌++◌, length, take, drop, get_or, Option, Some, None, refl, sym, ap, ◌∙◌, arith, append_assoc}
-use Rattle.std.specs.Bool.{then_some}
+use Rattle.std.proofs.Common.{◌≡◌, ℕ, suc, ◌+◌, ◌-◌, ◌*◌, ◌/◌, ◌%◌, ◌<◌, ◌≤◌, ◌≢◌, List, [], ◌∷◌, ◌++◌, length, take, drop, get_or, Option, Some, None, refl, sym, ap, ◌∙◌, arith, append_assoc}
 use Rattle.std.specs.Option.{option_map}
-use Rattle.std.proofs.lemmas.List.{append-nil, take_rest}
+use Rattle.std.proofs.lemmas.List.{append-nil, length-drop, take_rest}
 use Rattle.std.proofs.lemmas.Bool.Decides.{nat_tests}
 use Rattle.text.specs.Laws.{DigitsStand}
 use Rattle.text.specs.Hex.{before, byte_of, digit_of, digit_value, hex_of, unhex_of}
@@ -18,6 +17,10 @@ before-map : (front : List ℕ) (byte : ℕ) (more : Option (List ℕ)) → opti
 before-map front byte (Some m) = ap Some (append_assoc front (byte ∷ []) m)
 before-map front byte None = refl
 
+before-none : (byte : Option ℕ) → None ≡ before byte None
+before-none None = refl
+before-none (Some b) = refl
+
 -- two that are no digits
 pub unpaired : (s : List ℕ) (f : List ℕ → List ℕ) (t : Option (List ℕ)) → 2 ≤ length s → byte_of (get_or s 0 0) (get_or s 1 0) ≡ None → option_map f (unhex_of s) ≡ t → None ≡ t
 unpaired s f t long bad found = ap (λ b. option_map f (before b (unhex_of (drop 2 s)))) (sym bad) ∙ ap (option_map f) (sym (unhex_of-pair s long)) ∙ found
@@ -29,12 +32,23 @@ paired s front after byte t long good longer found =
     let pair : before (Some byte) (unhex_of (drop 2 s)) ≡ unhex_of s = ap (λ b. before b (unhex_of (drop 2 s))) (sym good) ∙ sym (unhex_of-pair s long) in
     rw (whole, longer) (before-map front byte (unhex_of (drop 2 s)) ∙ ap (option_map (λ m. front ++ m)) pair ∙ found)
 
--- the end of the pairs
-pub ended : {V : Type 0} (items : V → List ℕ) (v : V) (s : List ℕ) (t : Option (List ℕ)) → length s < 2 → option_map (λ m. items v ++ m) (unhex_of s) ≡ t → option_map items (then_some (length s == 0) v) ≡ t
+-- an odd number of digits
+pub odd : (s : List ℕ) → length s % 2 ≢ 0 → None ≡ unhex_of s
 unfolding unhex_of
-ended items v [] t short found = ap Some (sym (append-nil (items v))) ∙ found
-ended items v (c ∷ []) t short found = found
-ended items v (c ∷ d ∷ rest) t short found = absurd (omega arith)
+odd [] h = absurd (h refl)
+odd (c ∷ []) h = refl
+odd (high ∷ low ∷ rest) h = before-none (byte_of high low) ∙ ap (before (byte_of high low)) (odd rest (λ even. h (omega arith)))
+
+-- two digits less
+pub two_less : (s : List ℕ) → 2 ≤ length s → length s % 2 ≡ 0 → length (take (length s - 2) (drop 2 s)) % 2 ≡ 0
+two_less s long even = ap (λ xs. length xs % 2) (take_rest s 2) ∙ omega (arith, length-drop 2 s)
+
+-- the end of the pairs
+pub ended : (front s : List ℕ) (t : Option (List ℕ)) → length s < 2 → length s % 2 ≡ 0 → option_map (λ m. front ++ m) (unhex_of s) ≡ t → Some front ≡ t
+unfolding unhex_of
+ended front [] t short even found = ap Some (sym (append-nil front)) ∙ found
+ended front (c ∷ []) t short even found = absurd (omega arith)
+ended front (c ∷ d ∷ rest) t short even found = absurd (omega arith)
 
 -- a digit that was written reads as itself
 digit_value-digit_of : (n : ℕ) → n < 16 → digit_value (digit_of n) ≡ Some n

@@ -50,6 +50,9 @@ fn byte_of(high: u8, low: u8) -> Option<u8>
 pub fn unhex(heap: Global, text: &[u8]) -> Result<Option<Vec<u8>>, AllocError>
     ensures { IfOk result (λ found. option_map (λ v. v.items) found ≡ unhex_of text.now) }
 {
+    if text.len() % 2 != 0 {
+        return Ok(None);
+    }
     let mut bytes = Vec::new(heap);
     let mut rest = text;
     while let [high, low, tail @ ..] = rest {
@@ -59,5 +62,5 @@ pub fn unhex(heap: Global, text: &[u8]) -> Result<Option<Vec<u8>>, AllocError>
         bytes.push(byte)?;
         rest = tail;
     }
-    Ok(rest.is_empty().then_some(bytes))
+    Ok(Some(bytes))
 }
