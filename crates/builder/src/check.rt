@@ -10,7 +10,7 @@ use geometry::{Geometry, SALT_LIMIT};
 
 impl Source<'_> {
     // The geometry, unless a number or the salt is outside its limit.
-    fn geometry(&self, size: usize) -> Option<Geometry>
+    pub fn geometry(&self, size: usize) -> Option<Geometry>
         ensures { Limited size self.now result }
     {
         if self.salt.len() > SALT_LIMIT {

@@ -1,11 +1,11 @@
 // The command `build`: writes the tree of an image, and prints its label in veritysetup's lines.
-ghost use Rattle.std.specs.Prelude.{◌≡◌, ℕ, ◌+◌, ◌%◌, OnOk, IsErrOf};
+ghost use Rattle.std.specs.Prelude.{◌≡◌, ℕ, ◌+◌, ◌%◌, OnOk, IsErrOf, length};
 
 use crate::fault::Fault;
 use crate::options::{Build, BuildOptions};
 use builder::{BuildFault, Source, build};
 use digest::{Digest, Sha256, Sha512};
-use geometry::{Geometry, SALT_LIMIT};
+use geometry::Geometry;
 use std::fs;
 use text::{Function, hex};
 use thiserror::Error;
@@ -30,20 +30,15 @@ struct Built {
     root: Vec<u8>,
 }
 
-// The geometry of the image's tree, with digests of `size` bytes.
-fn geometry_of(options: &BuildOptions, len: usize, size: usize) -> Result<Geometry, NoTree>
-    ensures whole { OnOk result (len % options.now.data_block ≡ 0) }
-    ensures padding { (wanting : ℕ) → IsErrOf result (NoTree.Padding wanting) → (len + wanting) % options.now.data_block ≡ 0 }
+// The geometry of the tree over an image of whole blocks, with digests of `size` bytes.
+fn geometry_of(source: &Source<'_>, size: usize) -> Result<Geometry, NoTree>
+    ensures whole { OnOk result (length source.now.image.now % source.now.data_block ≡ 0) }
+    ensures padding { (wanting : ℕ) → IsErrOf result (NoTree.Padding wanting) → (length source.now.image.now + wanting) % source.now.data_block ≡ 0 }
 {
-    let (data_block, hash_block) = (options.data_block, options.hash_block);
-    if data_block == 0 || options.salt.len() > SALT_LIMIT {
-        return Err(NoTree::Limits);
-    }
-    let blocks = len / data_block;
-    let geometry = Geometry::new(data_block, hash_block, blocks, size).ok_or(NoTree::Limits)?;
-    match len % data_block {
+    let geometry = source.geometry(size).ok_or(NoTree::Limits)?;
+    match source.image.len() % source.data_block {
         0 => Ok(geometry),
-        over => Err(NoTree::Padding(data_block - over)),
+        over => Err(NoTree::Padding(source.data_block - over)),
     }
 }
 
@@ -55,15 +50,15 @@ fn make<D: Digest>(
 ) -> Result<Built, Fault> {
     let heap = rt.alloc();
     let size = digest.output_len();
-    let geometry = geometry_of(options, image.len(), size)?;
-    let mut tree = vec![in heap; 0u8; geometry.tree_len()]?;
-    let mut root = vec![in heap; 0u8; size]?;
     let source = Source {
         image,
         data_block: options.data_block,
         hash_block: options.hash_block,
         salt: options.salt.as_slice(),
     };
+    let geometry = geometry_of(&source, size)?;
+    let mut tree = vec![in heap; 0u8; geometry.tree_len()]?;
+    let mut root = vec![in heap; 0u8; size]?;
     build(digest, &source, tree.as_mut_slice(), root.as_mut_slice()).map_err(NoTree::Refused)?;
     Ok(Built {
         geometry,

@@ -65,7 +65,7 @@ fn parse_sum(heap: Global, mut words: Args) -> Result<Command, Fault> {
 }
 
 // The value that a text spells, and for any other text the misuse that it is.
-pub fn spelled<T: FromStr, F: FnOnce(String) -> Misuse + Drop>(
+pub(crate) fn spelled<T: FromStr, F: FnOnce(String) -> Misuse + Drop>(
     text: String,
     misuse: F,
 ) -> Result<T, Misuse>

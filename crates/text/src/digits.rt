@@ -9,11 +9,7 @@ fn digit(n: u8) -> char
     ensures value { result ≡ digit_of n }
     ensures ascii { result < 128 }
 {
-    if n < 10 {
-        (b'0' + n) as char
-    } else {
-        (b'a' - 10 + n) as char
-    }
+    char::from_digit(u32::from(n), 16).unwrap()
 }
 
 // Two digits for each byte.
@@ -31,12 +27,7 @@ pub fn hex(heap: Global, bytes: &[u8]) -> Result<String, AllocError>
 fn digit_value(c: u8) -> Option<u8>
     ensures { result ≡ digit_value c }
 {
-    match c {
-        b'0'..=b'9' => Some(c - b'0'),
-        b'a'..=b'f' => Some(c - b'a' + 10),
-        b'A'..=b'F' => Some(c - b'A' + 10),
-        _ => None,
-    }
+    char::from(c).to_digit(16).map(|value| value as u8)
 }
 
 // The byte of two digits.

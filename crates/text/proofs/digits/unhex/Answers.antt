@@ -12,7 +12,7 @@ pub loop-rest-preserved : goal.loop-rest-preserved
 loop-rest-preserved c = (
   two_less c.loop-rest.rest.now c.in-len2-up.len_at_least c.loop-rest.invariant.0,
   paired c.loop-rest.rest.now c.loop-rest.bytes.items c.push.new.self.items c.in-Some.byte _ c.in-len2-up.len_at_least
-  (sym c.byte_of.ensures ∙ c.in-Some.is) c.in_ok-push.ensures.items c.loop-rest.invariant.1,
+      (sym c.byte_of.ensures ∙ c.in-Some.is) c.in_ok-push.ensures.items c.loop-rest.invariant.1,
 )
 
 pub returns : goal.returns
