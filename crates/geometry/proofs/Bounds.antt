@@ -1,9 +1,12 @@
 -- What the limits say of a shape's other numbers.
-use Rattle.std.proofs.Common.{◌≡◌, ℕ, zero, suc, ◌+◌, ◌-◌, ◌*◌, ◌/◌, ◌^◌, ◌<◌, ◌≤◌, true, ◌&&◌, ◌||◌, eqb, leb, List, get_or, sym, ap, ◌∙◌, subst, inl, inr, le_trans, zero-add, arith}
+use Rattle.std.specs.Slice.{IsItemAt}
+use Rattle.std.specs.Option.{option_copied}
+use Rattle.std.proofs.Common.{Option, Bor, unwrap_or, ◌≡◌, ℕ, zero, suc, ◌+◌, ◌-◌, ◌*◌, ◌/◌, ◌^◌, ◌<◌, ◌≤◌, true, ◌&&◌, ◌||◌, eqb, leb, List, length, get_or, sym, ap, ◌∙◌, subst, inl, inr, le_trans, zero-add, arith}
 use native.Mathlib.Nat.{one-le-pow, pow-le-pow_right}
 use Rattle.std.proofs.lemmas.Nat.{div_below, le-div, mul-le}
-use Rattle.std.proofs.lemmas.List.FromFn.{get_or-map-range_with_len}
-use Rattle.std.proofs.lemmas.Bool.{and_parts, or_cases, eqb-true, leb-true}
+use Rattle.std.proofs.lemmas.List.FromFn.{get_or-map-range_with_len, length-map-range_with_len}
+use Rattle.std.proofs.lemmas.List.{get_or_past}
+use Rattle.std.proofs.lemmas.Bool.{and_parts, cases_lt, or_cases, eqb-true, leb-true}
 use Rattle.tree.specs.Shape.{Shape, fanout, levels, width, blocks_from, start, tree_blocks}
 use Rattle.tree.proofs.Levels.{levels_stand_lem}
 use Rattle.geometry.specs.declared.geometry.Geometry.{Geometry}
@@ -77,6 +80,18 @@ start_none s j above = ap (blocks_from s (suc j)) (let e : 0 ≡ levels s - suc 
 pub start_at : (s : Shape) (found : List ℕ) (j : ℕ) → found ≡ starts s → j < 7 → get_or found j 0 ≡ start s j
 unfolding starts
 start_at s found j is below = ap (λ xs. get_or xs j 0) is ∙ get_or-map-range_with_len (start s) 0 7 j j 0 below (zero-add j)
+
+-- the start that a geometry keeps of a level, or 0 where it keeps none
+pub start_kept : (g : Geometry) (j : ℕ) (r : Option (Bor ℕ)) → IsItemAt g.starts j r → unwrap_or (option_copied r) 0 ≡ start (shape_of g) j
+unfolding starts
+start_kept g j r item =
+    let s = shape_of g in
+    let long : length g.starts ≡ 7 = ap length g.begins ∙ length-map-range_with_len (start s) 0 7 in
+    item.4 (omega arith) 0
+    ∙ elim (cases_lt j 7) [
+      | inl below ↦ start_at s g.starts j g.begins below
+      | inr past ↦ get_or_past g.starts j 0 (omega arith) ∙ start_none s j (omega (arith, bounds_of g))
+    ]
 
 -- above the data, past the levels, there is one block
 pub width_one : (s : Shape) (i : ℕ) → 1 ≤ s.blocks → 2 ≤ fanout s → levels s ≤ i → 1 ≡ width s i

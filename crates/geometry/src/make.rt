@@ -87,7 +87,7 @@ impl Geometry {
     pub fn start(&self, level: usize) -> usize
         ensures { result ≡ start_of (shape_of self.now) level }
     {
-        if level < 7 { self.starts[level] } else { 0 }
+        self.starts.get(level).copied().unwrap_or(0)
     }
 
     // The blocks `steps` steps above the data.
