@@ -20,6 +20,7 @@ impl BuildFault {
     }
 }
 
+// By hand: the crates below `text` stand on std alone.
 impl fmt::Display for BuildFault {
     fn fmt<W: fmt::Write>(&self, f: &mut fmt::Formatter<W>) -> fmt::Result {
         match self {

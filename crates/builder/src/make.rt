@@ -7,7 +7,8 @@ use crate::job::Job;
 use crate::source::Source;
 use digest::Digest;
 
-// Writes the tree over the image, and its root. Refused, it leaves both buffers all zeros.
+// Writes the tree over the image, and its root. Refused, it leaves both buffers all zeros. The buffers are two
+// parameters: each has a length and a clause of its own.
 pub fn build<D: Digest>(
     digest: &D,
     source: &Source<'_>,

@@ -31,6 +31,7 @@ fn salt_bytes(heap: Global, text: String) -> Result<Vec<u8>, Fault> {
 impl BuildOptions {
     // Takes an option and its value.
     fn set(&mut self, heap: Global, name: String, value: Option<String>) -> Result<(), Fault> {
+        // the name is still wanted below
         let Some(value) = value else {
             return Err(Fault::from(Misuse::NoValue(name)));
         };

@@ -9,7 +9,8 @@ use crate::message::Message;
 use crate::refusal::Refusal;
 use sha2_block::Word;
 
-// The first `size` bytes of the hash of `first` joined to `second`, into `out`.
+// The first `size` bytes of the hash of `first` joined to `second`, into `out`. The two are what a digest is asked by;
+// they are a `Message` once they fit.
 pub(crate) fn answer<W: Word>(
     size: usize,
     first: &[u8],

@@ -18,6 +18,7 @@ impl Refusal {
     }
 }
 
+// By hand: the crates below `text` stand on std alone.
 impl fmt::Display for Refusal {
     fn fmt<W: fmt::Write>(&self, f: &mut fmt::Formatter<W>) -> fmt::Result {
         match self {

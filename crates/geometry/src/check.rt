@@ -36,6 +36,7 @@ impl LabelFault {
     }
 }
 
+// By hand: the crates below `text` stand on std alone.
 impl fmt::Display for LabelFault {
     fn fmt<W: fmt::Write>(&self, f: &mut fmt::Formatter<W>) -> fmt::Result {
         match self {

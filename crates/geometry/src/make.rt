@@ -14,7 +14,7 @@ fn is_block_size(n: usize) -> bool
 }
 
 impl Geometry {
-    // The geometry of these numbers, unless one is outside its limit.
+    // The geometry of these numbers, unless one is outside its limit. A struct of the four would be a geometry unchecked.
     pub fn new(data_block: usize, hash_block: usize, blocks: usize, slot: usize) -> Option<Geometry>
         ensures { MadeOf (shape data_block hash_block blocks slot) result }
     {

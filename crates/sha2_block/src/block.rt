@@ -79,7 +79,7 @@ fn round<W: Word>(s: State<W>, k: W, w: W) -> State<W>
     }
 }
 
-// The window one word on.
+// The window one word on, by name as `Words` has them.
 fn shift<W: Word>(w: Words<W>) -> Words<W>
     ensures { sixteen W.value result ≡ shifted W.variant (sixteen W.value w) }
 {
@@ -146,7 +146,7 @@ fn turn<W: Word, const LAST: bool>(work: Work<W>, t: usize) -> Work<W>
     work
 }
 
-// Two states, added word by word.
+// Two states, added word by word, by name as `State` has them.
 #[tactic(auto, unfolding(crate::specs::Block::added))]
 fn sum<W: Word>(s: State<W>, t: State<W>) -> State<W>
     ensures { eight W.value result ≡ added W.variant (eight W.value s) (eight W.value t) }

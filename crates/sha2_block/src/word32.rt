@@ -19,6 +19,7 @@ impl Word for u32 {
 
     ghost xors = { λ x y. (tt, λ r e. e) };
 
+    // What the trait asks of each word, a line each: these are the two types' own sizes and operations of std.
     fn size() -> usize {
         4
     }
@@ -50,8 +51,8 @@ impl Word for u32 {
         self.rotate_right(17) ^ self.rotate_right(19) ^ (self >> 10)
     }
 
-    // Equal to the standard's form below 2^32 alone, which no law of a trait can say of a word; in the standard's
-    // form, as one text, it was slower.
+    // Equal to the standard's form below 2^32 alone, so one text would want that bound from each word, in place of
+    // this. In the standard's form, as one text, it was slower.
     fn choice(self, y: u32, z: u32) -> u32 {
         z ^ (self & (y ^ z))
     }

@@ -19,6 +19,7 @@ impl Word for u64 {
 
     ghost xors = { λ x y. (tt, λ r e. e) };
 
+    // What the trait asks of each word, a line each: these are the two types' own sizes and operations of std.
     fn size() -> usize {
         8
     }
@@ -50,8 +51,8 @@ impl Word for u64 {
         self.rotate_right(19) ^ self.rotate_right(61) ^ (self >> 6)
     }
 
-    // Equal to the standard's form below 2^64 alone, which no law of a trait can say of a word; in the standard's
-    // form, as one text, it was slower.
+    // Equal to the standard's form below 2^64 alone, so one text would want that bound from each word, in place of
+    // this. In the standard's form, as one text, it was slower.
     fn choice(self, y: u64, z: u64) -> u64 {
         z ^ (self & (y ^ z))
     }

@@ -53,6 +53,7 @@ fn compare(rt: &HostRuntime, card: &Card) -> anyhow::Result<bool> {
 }
 
 fn run(rt: &HostRuntime) -> anyhow::Result<()> {
+    // every card is built and printed, whatever came of the one before
     let mut all = true;
     for card in Card::ALL {
         all &= compare(rt, &card)?;

@@ -9,6 +9,7 @@ pub struct Expected {
     text: String,
 }
 
+// Two words to print, and so no `bool`.
 #[derive(Clone, Copy)]
 pub enum Verdict {
     Right,

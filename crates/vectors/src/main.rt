@@ -16,6 +16,7 @@ use split::Split;
 use tally::Tally;
 use text::{Function, Unhashed};
 
+// The error to print. A `From` would belong to neither type's crate.
 fn told(why: Unhashed) -> anyhow::Error {
     match why {
         Unhashed::Refused(_) => anyhow!("a message was refused"),
