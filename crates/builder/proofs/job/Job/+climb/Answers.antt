@@ -1,9 +1,10 @@
-use Rattle.std.proofs.Common.{length, ap, ◌∙◌, arith}
+use Rattle.std.proofs.Common.{◌*◌, ◌≤◌, length, ap, ◌∙◌, arith}
 use Rattle.geometry.specs.Of.{shape_of}
 use Rattle.tree.specs.Tree.{salted}
 use Rattle.builder.proofs.Ready.{block_len_within}
 use Rattle.builder.proofs.Climb.{cut_inside, cut_level, length-top, top_root, top_tree, tree_next}
 use Rattle.builder.proofs.job.Job.+climb.Goals as goal
+use Rattle.builder.proofs.job.Job.+climb.Goals.{After-hash_block}
 
 pub salted-requires-clause-short : goal.salted-requires-clause-short
 salted-requires-clause-short g t c =
@@ -23,13 +24,15 @@ returns-then-i-levels-clause-root g t c =
     let job = c.args.self.now in
     c.salted.ensures ∙ ap (salted g.D.Digest.meaning job.salt.now) c.requires.below ∙ top_root job.ready (c.if-i-levels.true ∙ c.levels.ensures)
 
+-- the cut lies inside the tree's buffer
+inside : (g : _) (t : _) (c : After-hash_block g t) → c.start.result * c.hash_block.result ≤ length c.args.tree.now
+inside g t c = cut_inside (shape_of c.args.self.now.geometry) c.requires.low c.if-i-levels.false c.levels.ensures c.start.ensures c.hash_block.ensures c.requires.zeros
+
 pub overflow_mul-start : goal.overflow_mul-start
-overflow_mul-start g t c =
-    let inside = cut_inside (shape_of c.args.self.now.geometry) c.requires.low c.if-i-levels.false c.levels.ensures c.start.ensures c.hash_block.ensures c.requires.zeros in
-    record { fits = omega (arith, inside) }
+overflow_mul-start g t c = record { fits = omega (arith, inside g t c) }
 
 pub split_at_mut-above-requires : goal.split_at_mut-above-requires
-split_at_mut-above-requires g t c = cut_inside (shape_of c.args.self.now.geometry) c.requires.low c.if-i-levels.false c.levels.ensures c.start.ensures c.hash_block.ensures c.requires.zeros
+split_at_mut-above-requires g t c = inside g t (goal.at.split_at_mut-above-requires g t c).After-hash_block
 
 pub fill_level-requires-clause-zeros : goal.fill_level-requires-clause-zeros
 fill_level-requires-clause-zeros g t c =
