@@ -1,0 +1,15 @@
+-- A layer over a device: a state, and a program of questions to the device below for each question to the layer.
+use Rattle.std.specs.Prelude.{[], ◌∷◌}
+use Rattle.device.specs.declared.question.Question.{Question}
+use Rattle.device.specs.Answer.{Answer}
+use Rattle.device.specs.Program.{Program, Meaning, after, result, asked}
+use Rattle.device.specs.Run.{Ran}
+
+-- the meaning of a layer in state s over a device of this meaning
+abbrev pub layered : {S R Q : Type 0} → (S → Question → Program R (Answer Q × S)) → S → Meaning R → Meaning Q
+layered layer s below [] q = (result below (layer s q)).0
+layered layer s below (r ∷ qs) q = layered layer (result below (layer s r)).1 (after below (asked below (layer s r))) qs q
+
+-- a question takes the layer from state s over d to state t over e, by the questions that the layer's program puts to the device below
+abbrev pub Through : {S R Q D : Type 0} → (D → Meaning R) → (D → Question → D → Type 0) → (S → Question → Program R (Answer Q × S)) → S → D → Question → S → D → Type 0
+Through meaning moves layer s d q t e = (answer : _) × Ran meaning moves d (layer s q) (answer, t) e

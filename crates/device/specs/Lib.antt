@@ -1,0 +1,4 @@
+pub mod Answer
+pub mod Program
+pub mod Run
+pub mod Layer

@@ -1,0 +1,5 @@
+pub mod Tests
+pub mod Blocks
+pub mod Descent
+pub mod Paths
+pub mod Judging

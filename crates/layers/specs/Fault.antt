@@ -1,0 +1,24 @@
+-- The numbers and places of a storage fault.
+use Rattle.std.specs.Prelude.{ℕ}
+use Rattle.device.specs.declared.question.Area.{Area}
+use Rattle.device.specs.declared.question.Area.TheVariants as area
+use Rattle.layers.specs.declared.fault.Level.{Level}
+use Rattle.layers.specs.declared.fault.Level.TheVariants.{Data, Tree}
+use Rattle.layers.specs.declared.fault.StorageFault.{StorageFault}
+use Rattle.layers.specs.declared.fault.StorageFault.TheVariants.{Label, NoBlock, Refused, Mismatch}
+
+-- a level of the tree has its own number, the data 255
+abbrev pub level_number : Level → ℕ
+level_number Data = 255
+level_number (Tree i) = i
+
+abbrev pub area_of : Level → Area
+area_of Data = area.Data
+area_of (Tree i) = area.Tree
+
+-- a label outside its limits, a question that is for no data block, a block refused below, a block whose digest is wrong
+abbrev pub number_of : {R : Type 0} → StorageFault R → ℕ
+number_of Label = 2
+number_of (NoBlock block) = 12
+number_of (Refused place below) = 10
+number_of (Mismatch place) = 11

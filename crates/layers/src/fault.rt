@@ -1,0 +1,62 @@
+// Why a block was not given.
+ghost use Rattle.std.specs.Prelude.{◌≡◌};
+ghost use Rattle.layers.specs.Fault.{level_number, number_of};
+
+use std::fmt;
+
+// The data, or a level of the tree, the lowest being 0.
+#[derive(Clone, Copy, PartialEq, Eq, Debug, Drop)]
+pub enum Level {
+    Data,
+    Tree(u8),
+}
+
+impl Level {
+    // 255 is the data.
+    pub fn number(self) -> u8
+        ensures { result ≡ level_number self }
+    {
+        match self {
+            Level::Data => 255,
+            Level::Tree(level) => level,
+        }
+    }
+}
+
+// A block of its area. Blocks of the tree are counted over all its levels.
+#[derive(Clone, Copy, PartialEq, Eq, Debug, Drop)]
+pub struct Place {
+    pub level: Level,
+    pub block: u32,
+}
+
+#[derive(Clone, Copy, PartialEq, Eq, Debug, Drop)]
+pub enum StorageFault<R> {
+    // The label is outside a limit, or another digest's.
+    Label,
+    // Asked for anything but a whole data block that there is; it names the block asked for.
+    NoBlock(u32),
+    // The device below refused the block, for this reason.
+    Refused(Place, R),
+    // The block has not the digest that the label or the block above it tells.
+    Mismatch(Place),
+}
+
+impl<R> StorageFault<R> {
+    pub fn number(&self) -> u8
+        ensures { result ≡ number_of self.now }
+    {
+        match self {
+            StorageFault::Label => 2,
+            StorageFault::NoBlock(_) => 12,
+            StorageFault::Refused(..) => 10,
+            StorageFault::Mismatch(_) => 11,
+        }
+    }
+}
+
+impl<R> From<(R, Place)> for StorageFault<R> {
+    fn from(refusal: (R, Place)) -> StorageFault<R> {
+        StorageFault::Refused(refusal.1, refusal.0)
+    }
+}

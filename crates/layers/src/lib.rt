@@ -1,0 +1,8 @@
+// The rules of the two layers, as programs of questions, and what holds of them.
+#![tactic(auto)]
+
+mod fault;
+mod laws;
+
+pub use fault::{Level, Place, StorageFault};
+pub use laws::{answers_judged, honest_accepted, paths_accepted};

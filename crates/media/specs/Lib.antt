@@ -1,0 +1,4 @@
+pub mod Memory
+pub mod Tape
+pub mod Fault
+pub mod Sizes

@@ -1,0 +1,53 @@
+// Why a question was refused, with its place.
+ghost use Rattle.std.specs.Prelude.{◌≡◌};
+ghost use Rattle.media.specs.Fault.{outside_number, spent_number};
+
+use device::Area;
+use std::fmt;
+
+// The block does not lie whole in its area, or no byte was asked for.
+#[derive(Clone, Copy, PartialEq, Eq, Debug)]
+pub struct Outside {
+    pub area: Area,
+    pub block: u32,
+}
+
+impl Outside {
+    pub fn number(&self) -> u8
+        ensures { result ≡ outside_number self.now }
+    {
+        8
+    }
+}
+
+impl fmt::Display for Outside {
+    fn fmt<W: fmt::Write>(&self, f: &mut fmt::Formatter<W>) -> fmt::Result {
+        let Outside { area, block } = self;
+        write!(f, "8: block {block} of the {area} area is not all there")
+    }
+}
+
+// So many bytes are not left on the tape, or no byte was asked for.
+#[derive(Clone, Copy, PartialEq, Eq, Debug)]
+pub struct Spent {
+    pub area: Area,
+    pub block: u32,
+}
+
+impl Spent {
+    pub fn number(&self) -> u8
+        ensures { result ≡ spent_number self.now }
+    {
+        9
+    }
+}
+
+impl fmt::Display for Spent {
+    fn fmt<W: fmt::Write>(&self, f: &mut fmt::Formatter<W>) -> fmt::Result {
+        let Spent { area, block } = self;
+        write!(
+            f,
+            "9: the tape has too few bytes left for block {block} of the {area} area"
+        )
+    }
+}

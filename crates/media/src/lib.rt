@@ -1,0 +1,10 @@
+// Devices that keep bytes themselves: memory and tape.
+#![tactic(auto)]
+
+mod fault;
+mod memory;
+mod tape;
+
+pub use fault::{Outside, Spent};
+pub use memory::Memory;
+pub use tape::Tape;
