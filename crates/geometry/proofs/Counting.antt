@@ -43,3 +43,7 @@ pub rounded_le : (b r : ℕ) → 1 ≤ b → 1 ≤ r → (b + r - 1) / r ≤ b
 rounded_le b r some pos =
     let more = mul-le b 1 b r (omega arith) pos in
     omega (arith, div_below (b + r - 1) r (b + 1) (omega arith) (omega arith))
+
+-- a block of any level reaches some data
+pub reach_some : (f i : ℕ) → 8 ≤ f → 0 < f ^ i
+reach_some f i wide = one-le-pow i f (omega arith)

@@ -1,5 +1,5 @@
 // Making a geometry, and reading it.
-ghost use Rattle.std.specs.Prelude.{◌≡◌, ◌*◌, true, false};
+ghost use Rattle.std.specs.Prelude.{◌≡◌, ◌*◌, ◌/◌, ◌^◌, true, false};
 ghost use Rattle.geometry.specs.Limits.{is_block_size, is_count, shape, within};
 ghost use Rattle.geometry.specs.Of.{MadeOf, shape_of};
 ghost use Rattle.tree.specs.Shape.{fanout as fanout_of, levels as levels_of, start as start_of, tree_blocks as tree_blocks_of, width as width_of};
@@ -98,6 +98,17 @@ impl Geometry {
             return 1;
         }
         self.spread.width(steps as u32)
+    }
+
+    // The block `steps` steps above data block `k`, counted among those of its level.
+    #[tactic(auto, using(crate::proofs::Counting::reach_some))]
+    pub fn above(&self, k: usize, steps: u32) -> usize
+        ensures { result ≡ k / fanout_of (shape_of self.now) ^ steps }
+    {
+        match self.spread.fanout.checked_pow(steps) {
+            Some(reach) => k / reach,
+            None => 0,
+        }
     }
 
     // Tree blocks in all.

@@ -14,7 +14,9 @@ use Rattle.layers.specs.declared.fault.Place.{Place}
 use Rattle.layers.specs.declared.fault.StorageFault.{StorageFault}
 use Rattle.layers.specs.declared.fault.StorageFault.TheVariants.{Label, NoBlock, Refused, Mismatch}
 use Rattle.layers.specs.Anchor.{Anchor}
-use Rattle.layers.specs.Verity.{data_place, tree_place, data_question, tree_question, next_digest, checked, go_on, walk}
+use Rattle.layers.specs.Fault.{data_place}
+use Rattle.layers.specs.Verity.{tree_place, next_digest, checked, go_on, walk}
+use Rattle.layers.specs.Path.{data_question, tree_question}
 use Rattle.layers.specs.Publisher.{Publisher, Whole, anchor_of, right_block, Differs, NoTwin}
 use Rattle.layers.specs.Judged.{IsFor, WasRefused, Judged}
 use Rattle.layers.proofs.Tests.{tested}

@@ -10,8 +10,9 @@ use Rattle.layers.specs.declared.fault.Place.{Place}
 use Rattle.layers.specs.declared.fault.StorageFault.{StorageFault}
 use Rattle.layers.specs.declared.fault.StorageFault.TheVariants.{Refused, Mismatch}
 use Rattle.layers.specs.Anchor.{Anchor}
-use Rattle.layers.specs.Verity.{data_place, tree_place, data_question, tree_question, next_digest, checked, go_on, walk, verity, is_block}
-use Rattle.layers.specs.Path.{given, GivenDown, IsPath}
+use Rattle.layers.specs.Fault.{data_place}
+use Rattle.layers.specs.Verity.{tree_place, next_digest, checked, go_on, walk, verity, is_block}
+use Rattle.layers.specs.Path.{data_question, tree_question, given, GivenDown, IsPath}
 use Rattle.layers.specs.Laws.{PathsAccepted}
 use Rattle.layers.proofs.Tests.{tested}
 use Rattle.layers.proofs.Descent.{further, at}

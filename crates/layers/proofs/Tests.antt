@@ -5,7 +5,8 @@ use Rattle.device.specs.declared.question.Area.{Area}
 use Rattle.device.specs.declared.question.Area.TheVariants.{Data, Tree}
 use Rattle.device.specs.declared.question.Question.{Question}
 use Rattle.tree.specs.Shape.{Shape}
-use Rattle.layers.specs.Verity.{is_data, is_block, data_question}
+use Rattle.layers.specs.Verity.{is_data, is_block}
+use Rattle.layers.specs.Path.{data_question}
 
 -- a test and its two outcomes
 pub tested : (b : Bool) (P : Bool → Type 0) → (b ≡ true → P true) → (b ≡ false → P false) → P b

@@ -4,6 +4,7 @@ use Rattle.device.specs.declared.question.Area.{Area}
 use Rattle.device.specs.declared.question.Area.TheVariants as area
 use Rattle.layers.specs.declared.fault.Level.{Level}
 use Rattle.layers.specs.declared.fault.Level.TheVariants.{Data, Tree}
+use Rattle.layers.specs.declared.fault.Place.{Place}
 use Rattle.layers.specs.declared.fault.StorageFault.{StorageFault}
 use Rattle.layers.specs.declared.fault.StorageFault.TheVariants.{Label, NoBlock, Refused, Mismatch}
 
@@ -22,3 +23,7 @@ number_of Label = 2
 number_of (NoBlock block) = 12
 number_of (Refused place below) = 10
 number_of (Mismatch place) = 11
+
+-- the place of data block k
+abbrev pub data_place : ℕ → Place
+data_place k = record { level = Data; block = k }

@@ -5,7 +5,15 @@ use Rattle.device.specs.Program.{Exchange}
 use Rattle.tree.specs.Shape.{Shape}
 use Rattle.tree.specs.Path.{Leads}
 use Rattle.layers.specs.Anchor.{Anchor}
-use Rattle.layers.specs.Verity.{data_question, tree_question}
+use Rattle.layers.specs.Fault.{data_place}
+use Rattle.layers.specs.Verity.{tree_place, question_at}
+
+-- the questions for data block k, and for the block of level i above it
+abbrev pub data_question : Shape → ℕ → Question
+data_question s k = question_at (data_place k) s.data_block
+
+abbrev pub tree_question : Shape → ℕ → ℕ → Question
+tree_question s k i = question_at (tree_place s k i) s.hash_block
 
 abbrev pub given : {R : Type 0} → Question → List ℕ → Exchange R
 given q bytes = record { question = q; answer = Ok bytes }

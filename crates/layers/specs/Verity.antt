@@ -13,21 +13,16 @@ use Rattle.layers.specs.declared.fault.Level.TheVariants.{Data, Tree}
 use Rattle.layers.specs.declared.fault.Place.{Place}
 use Rattle.layers.specs.declared.fault.StorageFault.{StorageFault}
 use Rattle.layers.specs.declared.fault.StorageFault.TheVariants.{Label, NoBlock, Refused, Mismatch}
+use Rattle.layers.specs.Fault.{area_of, data_place}
 use Rattle.layers.specs.Anchor.{Anchor}
 
--- the place of data block k, and of the block of level i above it, counted over the whole tree
-abbrev pub data_place : ℕ → Place
-data_place k = record { level = Data; block = k }
-
+-- the place of the block of level i above data block k, counted over the whole tree
 abbrev pub tree_place : Shape → ℕ → ℕ → Place
 tree_place s k i = record { level = Tree i; block = start s i + k / fanout s ^ suc i }
 
--- the questions for them
-abbrev pub data_question : Shape → ℕ → Question
-data_question s k = record { area = area.Data; block = k; length = s.data_block }
-
-abbrev pub tree_question : Shape → ℕ → ℕ → Question
-tree_question s k i = record { area = area.Tree; block = start s i + k / fanout s ^ suc i; length = s.hash_block }
+-- the question for the block of a place, of n bytes
+abbrev pub question_at : Place → ℕ → Question
+question_at place n = record { area = area_of place.level; block = place.block; length = n }
 
 -- the digest of the next block down, in the block of level i above data block k
 abbrev pub next_digest : Anchor → ℕ → ℕ → List ℕ → List ℕ
@@ -38,17 +33,20 @@ abbrev pub checked : {R : Type 0} → Anchor → Place → List ℕ → Answer R
 checked anchor place want (Err refusal) = Err (Refused place refusal)
 checked anchor place want (Ok block) = cond (bytes_eq (anchor.salted block) want) (Ok block) (Err (Mismatch place))
 
--- the rest of the way down is gone with a block that was accepted, and not at all with a fault
+-- asks for the block of a place, of n bytes, and gives it only with the digest `want`
+abbrev pub check_block : {R : Type 0} → Anchor → Place → ℕ → List ℕ → Program R (Answer (StorageFault R))
+check_block anchor place n want = ask (question_at place n) (λ answer. done (checked anchor place want answer))
+
+-- goes on with a block that was accepted, and ends with a fault
 abbrev pub go_on : {R F : Type 0} → (List ℕ → Program R (Answer F)) → Answer F → Program R (Answer F)
 go_on next (Ok block) = next block
 go_on next (Err fault) = done (Err fault)
 
 -- from the top of i levels down to data block k, where the first block is to have the digest `want`
 unfoldable pub walk : {R : Type 0} → Anchor → ℕ → ℕ → List ℕ → Program R (Answer (StorageFault R))
-walk anchor k zero want = ask (data_question anchor.shape k) (λ answer. done (checked anchor (data_place k) want answer))
+walk anchor k zero want = check_block anchor (data_place k) anchor.shape.data_block want
 walk anchor k (suc i) want =
-    ask (tree_question anchor.shape k i)
-    (λ answer. go_on (λ block. walk anchor k i (next_digest anchor k i block)) (checked anchor (tree_place anchor.shape k i) want answer))
+    bind (check_block anchor (tree_place anchor.shape k i) anchor.shape.hash_block want) (go_on (λ block. walk anchor k i (next_digest anchor k i block)))
 
 -- a question for a whole data block that there is
 abbrev pub is_data : Area → Bool

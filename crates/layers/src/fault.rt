@@ -1,8 +1,9 @@
 // Why a block was not given.
 ghost use Rattle.std.specs.Prelude.{◌≡◌};
-ghost use Rattle.layers.specs.Fault.{level_number, number_of};
+ghost use Rattle.layers.specs.declared.fault.StorageFault.TheVariants.{Refused};
+ghost use Rattle.layers.specs.Fault.{area_of, data_place, level_number, number_of};
 
-use std::fmt;
+use device::Area;
 
 // The data, or a level of the tree, the lowest being 0.
 #[derive(Clone, Copy, PartialEq, Eq, Debug, Drop)]
@@ -12,6 +13,16 @@ pub enum Level {
 }
 
 impl Level {
+    // The area that the level lies in.
+    pub fn area(self) -> Area
+        ensures { result ≡ area_of self }
+    {
+        match self {
+            Level::Data => Area::Data,
+            Level::Tree(_) => Area::Tree,
+        }
+    }
+
     // 255 is the data.
     pub fn number(self) -> u8
         ensures { result ≡ level_number self }
@@ -28,6 +39,18 @@ impl Level {
 pub struct Place {
     pub level: Level,
     pub block: u32,
+}
+
+impl Place {
+    // Data block `k`.
+    pub fn data(k: u32) -> Place
+        ensures { result ≡ data_place k }
+    {
+        Place {
+            level: Level::Data,
+            block: k,
+        }
+    }
 }
 
 #[derive(Clone, Copy, PartialEq, Eq, Debug, Drop)]
@@ -55,7 +78,10 @@ impl<R> StorageFault<R> {
     }
 }
 
+// A refusal below, put with its place.
 impl<R> From<(R, Place)> for StorageFault<R> {
+    ghost from_gives = { λ lower fault. fault ≡ Refused lower.1 lower.0 };
+
     fn from(refusal: (R, Place)) -> StorageFault<R> {
         StorageFault::Refused(refusal.1, refusal.0)
     }

@@ -1,0 +1,54 @@
+// The path check as a device.
+ghost use Rattle.std.specs.Prelude.{◌≡◌, OnErr, length, replicate};
+ghost use Rattle.device.specs.Answer.{answered, question};
+ghost use Rattle.device.specs.Layer.{layered, Through};
+ghost use Rattle.device.specs.Run.{Ran};
+ghost use Rattle.device.proofs.Layers.{layered-sized, through-onward};
+ghost use Rattle.layers.specs.Verity.{verity as verity_of, verity_layer};
+ghost use Rattle.layers.proofs.Sizes.{verity_layer-fits};
+ghost use Rattle.verity.specs.Layer.{label_of};
+
+use crate::verity::Verity;
+use device::{Area, Device};
+use digest::Digest;
+use layers::StorageFault;
+
+impl<H: Digest, D: Device> Verity<H, D> {
+    // The check of one question.
+    fn answer(
+        &mut self,
+        area: Area,
+        block: u32,
+        buf: &mut [u8],
+    ) -> Result<(), StorageFault<D::Refusal>>
+        ensures run { Ran D.meaning D.moves self.old.below (verity_of (label_of self.old) (question area block buf.old)) (answered result buf.new) self.new.below }
+        ensures zeros { OnErr result (buf.new ≡ replicate (length buf.old) 0) }
+        ensures label { self.new.anchor ≡ self.old.anchor }
+    {
+        let Some(anchor) = &self.anchor else {
+            buf.fill(0);
+            return Err(StorageFault::Label);
+        };
+        if !anchor.holds(area, block, buf.len()) {
+            buf.fill(0);
+            return Err(StorageFault::NoBlock(block));
+        }
+        anchor.walk(&mut self.below, block, buf)
+    }
+}
+
+impl<H: Digest, D: Device> Device for Verity<H, D> {
+    type Refusal = StorageFault<D::Refusal>;
+
+    ghost meaning = { λ v. layered verity_layer (label_of v) (D.meaning v.below) };
+
+    ghost moves = { λ v q w. Through D.meaning D.moves verity_layer (label_of v) v.below q (label_of w) w.below };
+
+    fn ask(&mut self, area: Area, block: u32, buf: &mut [u8]) -> Result<(), Self::Refusal> {
+        self.answer(area, block, buf)
+    }
+
+    ghost sized = { λ v. layered-sized verity_layer (λ label. Unit {0}) verity_layer-fits (D.meaning v.below) (D.sized v.below) (label_of v) tt };
+
+    ghost onward = { λ v w q moved. through-onward D.meaning D.moves D.onward verity_layer (label_of v) v.below q (label_of w) w.below moved };
+}
