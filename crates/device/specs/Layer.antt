@@ -1,14 +1,27 @@
 -- A layer over a device: a state, and a program of questions to the device below for each question to the layer.
-use Rattle.std.specs.Prelude.{[], ◌∷◌}
+use Rattle.std.specs.Prelude.{List, [], ◌∷◌, ◌++◌}
 use Rattle.device.specs.declared.question.Question.{Question}
 use Rattle.device.specs.Answer.{Answer}
-use Rattle.device.specs.Program.{Program, Meaning, after, result, asked}
+use Rattle.device.specs.Program.{Program, Meaning, Exchange, after, result, asked, exchanges}
 use Rattle.device.specs.Run.{Ran}
 
 -- the meaning of a layer in state s over a device of this meaning
 abbrev pub layered : {S R Q : Type 0} → (S → Question → Program R (Answer Q × S)) → S → Meaning R → Meaning Q
 layered layer s below [] q = (result below (layer s q)).0
 layered layer s below (r ∷ qs) q = layered layer (result below (layer s r)).1 (after below (asked below (layer s r))) qs q
+
+-- the state after some questions, the meaning that is left below, and all that was asked below for them
+abbrev pub state_after : {S R Q : Type 0} → (S → Question → Program R (Answer Q × S)) → S → Meaning R → List Question → S
+state_after layer s below [] = s
+state_after layer s below (q ∷ qs) = state_after layer (result below (layer s q)).1 (after below (asked below (layer s q))) qs
+
+abbrev pub meaning_after : {S R Q : Type 0} → (S → Question → Program R (Answer Q × S)) → S → Meaning R → List Question → Meaning R
+meaning_after layer s below [] = below
+meaning_after layer s below (q ∷ qs) = meaning_after layer (result below (layer s q)).1 (after below (asked below (layer s q))) qs
+
+abbrev pub asked_for : {S R Q : Type 0} → (S → Question → Program R (Answer Q × S)) → S → Meaning R → List Question → List (Exchange R)
+asked_for layer s below [] = []
+asked_for layer s below (q ∷ qs) = exchanges below (layer s q) ++ asked_for layer (result below (layer s q)).1 (after below (asked below (layer s q))) qs
 
 -- a question takes the layer from state s over d to state t over e, by the questions that the layer's program puts to the device below
 abbrev pub Through : {S R Q D : Type 0} → (D → Meaning R) → (D → Question → D → Type 0) → (S → Question → Program R (Answer Q × S)) → S → D → Question → S → D → Type 0

@@ -5,3 +5,5 @@ pub mod Paths
 pub mod Judging
 pub mod Sizes
 pub mod Walking
+pub mod Rows
+pub mod Caching

@@ -5,3 +5,5 @@ pub mod Path
 pub mod Publisher
 pub mod Judged
 pub mod Laws
+pub mod Cache
+pub mod CacheLaws

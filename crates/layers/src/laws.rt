@@ -1,4 +1,5 @@
 // Laws of the path check over any device; each function's contract is one.
+ghost use Rattle.layers.specs.CacheLaws.{CacheStands};
 ghost use Rattle.layers.specs.Laws.{AnswersJudged, HonestAccepted, PathsAccepted};
 
 // A block is accepted if and only if the blocks that were given are a path from the root to it.
@@ -14,4 +15,9 @@ pub fn answers_judged<R>()
 // A device that gives the publisher's blocks is never refused.
 pub fn honest_accepted<R>()
     ensures { HonestAccepted R }
+{}
+
+// What the cache's rows have is what the device below gave, and it asks below only what no row has.
+pub fn cache_stands<R>()
+    ensures { CacheStands R }
 {}

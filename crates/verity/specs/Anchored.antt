@@ -1,9 +1,9 @@
 -- What a checked label tells, as the path check's rule takes it.
-use Rattle.std.specs.Prelude.{ℕ, List, take}
+use Rattle.std.specs.Prelude.{ℕ, cond, List, take, Option, Some, None}
 use Rattle.tree.specs.Tree.{salted}
 use Rattle.geometry.specs.Of.{shape_of}
 use Rattle.geometry.specs.declared.label.Label.{Label}
-use Rattle.geometry.specs.Label.{told}
+use Rattle.geometry.specs.Label.{good, told}
 use Rattle.layers.specs.Anchor.{Anchor}
 use Rattle.verity.specs.declared.anchor.Anchored.{Anchored}
 
@@ -15,6 +15,12 @@ anchor_of {d = d} a = record {
   root = take d.LEN a.root;
 }
 
--- what a label tells of a digest with this meaning and size
-abbrev pub anchor_told : (List ℕ → List ℕ) → ℕ → Label → Anchor
-anchor_told meaning size l = record { salted = salted meaning l.salt.now; size = size; shape = told size l; root = l.root.now }
+-- the same of one that may have been refused
+abbrev pub kept : {H : Type 0} {h : _} → Option (Anchored H h) → Option Anchor
+kept None = None
+kept (Some a) = Some (anchor_of a)
+
+-- what a label tells, by a digest's number, size and meaning: nothing where it is refused
+abbrev pub told_by : ℕ → ℕ → (List ℕ → List ℕ) → Label → Option Anchor
+told_by number size meaning l =
+    cond (good number size l) (Some (record { salted = salted meaning l.salt.now; size = size; shape = told size l; root = l.root.now })) None

@@ -16,14 +16,12 @@ fn filled<const N: usize>(bytes: &[u8]) -> [u8; N]
 }
 
 impl<H: Digest + Drop> Anchored<H> {
-    ghost use Rattle.std.specs.Prelude.{◌≡◌, true, false, MatchOption};
-    ghost use Rattle.geometry.specs.Label.{good};
-    ghost use Rattle.verity.specs.Anchored.{anchor_of, anchor_told};
+    ghost use Rattle.verity.specs.Anchored.{kept, told_by};
 
     // What the label tells, unless it is refused.
     #[tactic(auto, using(crate::proofs::Labels::salt_short, crate::proofs::Labels::root_long))]
     pub(crate) fn new(digest: H, label: &Label<'_>) -> Option<Anchored<H>>
-        ensures { MatchOption result (good H.NUMBER H.LEN label.now ≡ false) (λ a. (good H.NUMBER H.LEN label.now ≡ true) × (anchor_of a ≡ anchor_told H.meaning H.LEN label.now)) }
+        ensures { kept result ≡ told_by H.NUMBER H.LEN H.meaning label.now }
     {
         let geometry = label.check(&digest).ok()?;
         Some(Anchored {

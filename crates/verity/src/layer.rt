@@ -6,12 +6,35 @@ ghost use Rattle.device.specs.Run.{Ran};
 ghost use Rattle.device.proofs.Layers.{layered-sized, through-onward};
 ghost use Rattle.layers.specs.Verity.{verity as verity_of, verity_layer};
 ghost use Rattle.layers.proofs.Sizes.{verity_layer-fits};
-ghost use Rattle.verity.specs.Layer.{label_of};
+ghost use Rattle.verity.specs.Anchored.{told_by};
+ghost use Rattle.verity.specs.Layer.{below_of, label_of};
 
+use crate::anchor::Anchored;
 use crate::verity::Verity;
 use device::{Area, Device};
 use digest::Digest;
+use geometry::Label;
 use layers::StorageFault;
+
+impl<H: Digest + Drop, D: Device> Verity<H, D> {
+    // Copies the label if it is good. Refused, it makes every answer that refusal.
+    pub fn new(digest: H, label: &Label<'_>, below: D) -> Verity<H, D>
+        ensures label { label_of result ≡ told_by H.NUMBER H.LEN H.meaning label.now }
+        ensures below { below_of result ≡ below }
+    {
+        Verity {
+            anchor: Anchored::new(digest, label),
+            below,
+        }
+    }
+
+    // Gives the device below back.
+    pub fn into_below(self) -> D
+        ensures { result ≡ below_of self }
+    {
+        self.below
+    }
+}
 
 impl<H: Digest, D: Device> Verity<H, D> {
     // The check of one question.
@@ -40,15 +63,15 @@ impl<H: Digest, D: Device> Verity<H, D> {
 impl<H: Digest, D: Device> Device for Verity<H, D> {
     type Refusal = StorageFault<D::Refusal>;
 
-    ghost meaning = { λ v. layered verity_layer (label_of v) (D.meaning v.below) };
+    ghost meaning = { λ v. layered verity_layer (label_of v) (D.meaning (below_of v)) };
 
-    ghost moves = { λ v q w. Through D.meaning D.moves verity_layer (label_of v) v.below q (label_of w) w.below };
+    ghost moves = { λ v q w. Through D.meaning D.moves verity_layer (label_of v) (below_of v) q (label_of w) (below_of w) };
 
     fn ask(&mut self, area: Area, block: u32, buf: &mut [u8]) -> Result<(), Self::Refusal> {
         self.answer(area, block, buf)
     }
 
-    ghost sized = { λ v. layered-sized verity_layer (λ label. Unit {0}) verity_layer-fits (D.meaning v.below) (D.sized v.below) (label_of v) tt };
+    ghost sized = { λ v. layered-sized verity_layer (λ label. Unit {0}) verity_layer-fits (D.meaning (below_of v)) (D.sized (below_of v)) (label_of v) tt };
 
-    ghost onward = { λ v w q moved. through-onward D.meaning D.moves D.onward verity_layer (label_of v) v.below q (label_of w) w.below moved };
+    ghost onward = { λ v w q moved. through-onward D.meaning D.moves D.onward verity_layer (label_of v) (below_of v) q (label_of w) (below_of w) moved };
 }

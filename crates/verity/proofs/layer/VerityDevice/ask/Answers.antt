@@ -4,7 +4,8 @@ use Rattle.device.proofs.Layers.{layer-answer}
 use Rattle.device.proofs.Runs.{returned-is, filled-is}
 use Rattle.layers.specs.Verity.{verity_layer}
 use Rattle.layers.proofs.Walking.{verity-ran}
-use Rattle.verity.specs.Layer.{kept, label_of}
+use Rattle.verity.specs.Anchored.{kept}
+use Rattle.verity.specs.Layer.{label_of}
 use Rattle.verity.proofs.layer.VerityDevice.ask.Goals as goal
 
 pub returns-clause-answer : goal.returns-clause-answer

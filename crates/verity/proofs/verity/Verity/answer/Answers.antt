@@ -1,8 +1,8 @@
 use Rattle.std.proofs.Common.{◌≡◌, None, Some, ap, sym, ◌∙◌}
 use Rattle.device.specs.Answer.{answered, question}
 use Rattle.layers.proofs.Walking.{verity-label, verity-no-block, verity-walks}
-use Rattle.verity.specs.Anchored.{anchor_of}
-use Rattle.verity.specs.Layer.{kept, label_of}
+use Rattle.verity.specs.Anchored.{anchor_of, kept}
+use Rattle.verity.specs.Layer.{label_of}
 use Rattle.verity.proofs.verity.Verity.answer.Goals as goal
 
 pub returns-in_default-clause-run : goal.returns-in_default-clause-run
