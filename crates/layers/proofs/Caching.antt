@@ -6,6 +6,7 @@ use Rattle.std.proofs.lemmas.Nat.{mod_below}
 use Rattle.device.specs.declared.question.Question.{Question}
 use Rattle.device.specs.Answer.{Answer}
 use Rattle.device.specs.Program.{Program, Meaning, Exchange, Somewhere, Fits, Sized, after, result, asked, exchanges}
+use Rattle.device.specs.Run.{Ran}
 use Rattle.device.specs.Layer.{state_after, meaning_after, asked_for}
 use Rattle.layers.specs.Path.{given}
 use Rattle.layers.specs.Cache.{Row, Table, empty, find, keep, cached, cache_layer}
@@ -137,3 +138,13 @@ module _ {R : Type 0} (m : Meaning R) (sized : Sized m) (table : Table) (whole :
   pub cache_layer-fits : Fits q (result m (cache_layer table q)).0 × AllWhole (result m (cache_layer table q)).1
   unfolding cache_layer
   cache_layer-fits = cached_fits (find q table.rows) refl
+
+-- a question to the cache as a run on a device
+module _ {S R : Type 0} (meaning : S → Meaning R) (moves : S → Question → S → Type 0) (table : Table) (q : Question) (s : S) where
+  pub ran-hit : (bytes : List ℕ) → find q table.rows ≡ Some bytes → Ran meaning moves s (cache_layer table q) (Ok bytes, table) s
+  unfolding cache_layer
+  ran-hit bytes is = subst (λ o. Ran meaning moves s (cached table q o) (Ok bytes, table) s) (sym is) (refl, refl)
+
+  pub ran-miss : find q table.rows ≡ None → (t : S) → moves s q t → (answer : Answer R) → answer ≡ meaning s [] q → Ran meaning moves s (cache_layer table q) (answer, keep table q answer) t
+  unfolding cache_layer
+  ran-miss is t moved answer was = subst (λ o. Ran meaning moves s (cached table q o) (answer, keep table q answer) t) (sym is) (t, moved, (ap (λ a. (a, keep table q a)) was, refl))

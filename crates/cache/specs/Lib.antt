@@ -1,0 +1,3 @@
+pub mod Rows
+pub mod Layer
+pub mod Whole

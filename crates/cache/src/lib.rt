@@ -1,0 +1,10 @@
+// A cache of four rows over any device.
+#![tactic(auto)]
+
+mod cache;
+mod layer;
+mod lookup;
+mod row;
+mod rows;
+
+pub use cache::Cache;

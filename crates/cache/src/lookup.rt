@@ -1,0 +1,100 @@
+// Reading and writing rows.
+use crate::row::{ROW, Row};
+use crate::rows::{Rows, Turn};
+use device::Question;
+
+impl Row {
+    ghost use Rattle.std.specs.Prelude.{◌≡◌, ◌≤◌, IfSome, MatchOption, None, Some, length};
+    ghost use Rattle.layers.specs.Cache.{row_for};
+    ghost use Rattle.cache.specs.Rows.{row_of};
+
+    fn empty() -> Row
+        ensures { row_of result ≡ None }
+    {
+        Row {
+            question: None,
+            bytes: [0; ROW],
+        }
+    }
+
+    // The bytes that the row has for a question.
+    fn get(&self, question: &Question) -> Option<&[u8]>
+        ensures found { MatchOption result (row_for question.now (row_of self.now) ≡ None) (λ bytes. row_for question.now (row_of self.now) ≡ Some bytes.now) }
+        ensures long { IfSome result (λ bytes. length bytes.now ≡ question.now.length) }
+    {
+        let kept = self.question?;
+        if kept != *question {
+            return None;
+        }
+        Some(&self.bytes[..kept.length])
+    }
+
+    // Writes the row anew.
+    fn put(&mut self, question: Question, bytes: &[u8])
+        requires whole { length bytes.now ≡ question.length }
+        requires short { length bytes.now ≤ 4096 }
+        ensures { row_of self.new ≡ Some (record { question = question; bytes = bytes.now }) }
+    {
+        let mut kept = [0; ROW];
+        kept[..bytes.len()].copy_from_slice(bytes);
+        *self = Row {
+            question: Some(question),
+            bytes: kept,
+        };
+    }
+}
+
+impl Turn {
+    ghost use Rattle.std.specs.Prelude.{◌≡◌, ◌+◌, ◌%◌};
+
+    // The first row follows the fourth.
+    fn next(self) -> Turn
+        ensures { result.row ≡ (self.row + 1) % 4 }
+    {
+        Turn {
+            row: (self.row + 1) % 4,
+        }
+    }
+}
+
+impl Rows {
+    ghost use Rattle.std.specs.Prelude.{◌≡◌, ◌≤◌, IfSome, MatchOption, Ok, None, Some, length};
+    ghost use Rattle.device.specs.Answer.{Answer};
+    ghost use Rattle.layers.specs.Cache.{empty, find, keep};
+    ghost use Rattle.cache.specs.Rows.{table_of};
+
+    pub(crate) fn empty() -> Rows
+        ensures { table_of result ≡ empty }
+    {
+        Rows {
+            rows: [Row::empty(); 4],
+            turn: Turn { row: 0 },
+        }
+    }
+
+    // The bytes that a row has for a question.
+    pub(crate) fn find(&self, question: &Question) -> Option<&[u8]>
+        ensures found { MatchOption result (find question.now (table_of self.now).rows ≡ None) (λ bytes. find question.now (table_of self.now).rows ≡ Some bytes.now) }
+        ensures long { IfSome result (λ bytes. length bytes.now ≡ question.now.length) }
+    {
+        for row in &self.rows {
+            if let Some(bytes) = row.get(question) {
+                return Some(bytes);
+            }
+        }
+        None
+    }
+
+    // An accepted answer goes into the next row in turn, unless it is too long for one.
+    pub(crate) fn keep(&mut self, question: Question, bytes: &[u8])
+        requires { length bytes.now ≡ question.length }
+        ensures { table_of self.new ≡ keep {R = Unit {0}} (table_of self.old) question (Ok bytes.now) }
+    {
+        if bytes.len() > ROW {
+            return;
+        }
+        let row = &mut self.rows[self.turn.row];
+        row.put(question, bytes);
+        self.turn = self.turn.next();
+    }
+}
