@@ -1,16 +1,16 @@
 -- The table through any questions, and what each is answered.
-use Rattle.std.proofs.Common.{◌≡◌, ℕ, ◌+◌, ◌%◌, ◌<◌, Bool, true, false, cond, leb, List, [], ◌∷◌, ◌++◌, length, set, Option, Some, None, Result, Ok, Err, IfOk, IfSome, refl, sym, ap, ◌∙◌, subst, inl, inr, append_assoc, arith}
+use Rattle.std.proofs.Common.{◌≡◌, ℕ, ◌+◌, ◌%◌, cond, leb, List, [], ◌∷◌, ◌++◌, length, set, Option, Some, None, Ok, Err, IfOk, IfSome, refl, sym, ap, ◌∙◌, subst, inl, inr, append_assoc, arith}
 use Rattle.std.specs.List.{AllByRecursion}
-use Rattle.std.proofs.lemmas.List.{append-nil, length-set}
+use Rattle.std.proofs.lemmas.List.{length-set}
 use Rattle.std.proofs.lemmas.Nat.{mod_below}
 use Rattle.device.specs.declared.question.Question.{Question}
 use Rattle.device.specs.Answer.{Answer}
-use Rattle.device.specs.Program.{Program, Meaning, Exchange, Somewhere, Fits, Sized, after, result, asked, exchanges}
+use Rattle.device.specs.Program.{Meaning, Exchange, Somewhere, Fits, Sized, after, result, asked, exchanges}
 use Rattle.device.specs.Run.{Ran}
 use Rattle.device.specs.Layer.{state_after, meaning_after, asked_for}
 use Rattle.layers.specs.Path.{given}
 use Rattle.layers.specs.Cache.{Row, Table, empty, find, keep, cached, cache_layer}
-use Rattle.layers.specs.CacheLaws.{Once, Holds, Cached, CacheStands}
+use Rattle.layers.specs.CacheLaws.{Holds, CacheStands}
 use Rattle.layers.proofs.Tests.{tested}
 use Rattle.layers.proofs.Descent.{at}
 use Rattle.layers.proofs.Rows.{found, all-set, once-set}

@@ -1,11 +1,11 @@
 -- Rows: what is found, and what a row that is written changes.
-use Rattle.std.proofs.Common.{◌≡◌, ℕ, zero, suc, ◌<◌, Bool, true, false, cond, ◌&&◌, eqb, List, [], ◌∷◌, length, set, Option, Some, None, IfSome, refl, sym, ap, ap₂, ◌∙◌, subst, arith}
+use Rattle.std.proofs.Common.{◌≡◌, ℕ, zero, suc, Bool, true, false, cond, ◌&&◌, eqb, List, [], ◌∷◌, set, Option, Some, None, IfSome, refl, sym, ap, ap₂, ◌∙◌, subst}
 use Rattle.std.specs.List.{AllByRecursion}
 use Rattle.std.proofs.lemmas.Bool.{and_parts, eqb-true, eqb-false, eq-eqb, ne_eqb}
 use Rattle.device.specs.declared.question.Area.{Area}
 use Rattle.device.specs.declared.question.Area.TheVariants.{Data, Tree}
 use Rattle.device.specs.declared.question.Question.{Question}
-use Rattle.layers.specs.Cache.{Row, same_area, same_question, row_for, find}
+use Rattle.layers.specs.Cache.{Row, same_area, same_question, find}
 use Rattle.layers.specs.CacheLaws.{Once}
 use Rattle.layers.proofs.Tests.{tested}
 

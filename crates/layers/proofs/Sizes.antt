@@ -1,8 +1,8 @@
 -- What the path check gives has as many bytes as were asked for.
-use Rattle.std.proofs.Common.{◌≡◌, ℕ, zero, suc, Bool, true, false, cond, List, [], ◌∷◌, length, Option, None, Some, Result, Ok, Err, IfOk, sym, subst, ◌∙◌, bytes_eq}
+use Rattle.std.proofs.Common.{◌≡◌, ℕ, zero, suc, Bool, cond, List, [], ◌∷◌, length, Option, None, Some, Ok, Err, IfOk, sym, subst, bytes_eq}
 use Rattle.device.specs.declared.question.Question.{Question}
 use Rattle.device.specs.Answer.{Answer}
-use Rattle.device.specs.Program.{Meaning, Fits, Sized, after, asked, result, bind, done}
+use Rattle.device.specs.Program.{Meaning, Fits, Sized, after, result, done}
 use Rattle.device.proofs.Runs.{result-bind}
 use Rattle.tree.specs.Shape.{levels}
 use Rattle.layers.specs.declared.fault.Place.{Place}

@@ -1,5 +1,5 @@
 -- The way down as a run on a device: block by block.
-use Rattle.std.proofs.Common.{◌≡◌, ℕ, suc, true, false, cond, List, Option, None, Some, Result, Ok, Err, refl, sym, subst}
+use Rattle.std.proofs.Common.{◌≡◌, ℕ, suc, true, false, cond, List, Option, None, Some, Ok, Err, refl, sym, subst}
 use Rattle.device.specs.declared.question.Question.{Question}
 use Rattle.device.specs.Answer.{Answer}
 use Rattle.device.specs.Program.{Program, done, Meaning}

@@ -2,8 +2,7 @@
 use Rattle.std.specs.Prelude.{◌≡◌, ℕ, ◌<◌, List, [], ◌∷◌, ◌++◌, length, Ok, Option, Some, None, IfOk, IfSome}
 use Rattle.std.specs.List.{AllByRecursion}
 use Rattle.device.specs.declared.question.Question.{Question}
-use Rattle.device.specs.Answer.{Answer}
-use Rattle.device.specs.Program.{Meaning, Exchange, Somewhere, after, result, asked, exchanges}
+use Rattle.device.specs.Program.{Meaning, Exchange, Somewhere, result, asked, exchanges}
 use Rattle.device.specs.Layer.{state_after, meaning_after, asked_for}
 use Rattle.layers.specs.Path.{given}
 use Rattle.layers.specs.Cache.{Row, Table, empty, find, cache_layer}

@@ -1,5 +1,5 @@
 -- The numbers and places of a storage fault.
-use Rattle.std.specs.Prelude.{ℕ}
+use Rattle.std.specs.Prelude.{ℕ, Option, Some, None}
 use Rattle.device.specs.declared.question.Area.{Area}
 use Rattle.device.specs.declared.question.Area.TheVariants as area
 use Rattle.layers.specs.declared.fault.Level.{Level}
@@ -27,3 +27,10 @@ number_of (Mismatch place) = 11
 -- the place of data block k
 abbrev pub data_place : ℕ → Place
 data_place k = record { level = Data; block = k }
+
+-- the place of a fault; a label has none
+abbrev pub place_of : {R : Type 0} → StorageFault R → Option Place
+place_of Label = None
+place_of (NoBlock block) = Some (data_place block)
+place_of (Refused place below) = Some place
+place_of (Mismatch place) = Some place

@@ -9,7 +9,7 @@ use Rattle.device.specs.Answer.{Answer}
 use Rattle.device.specs.Program.{Program, done, ask, bind}
 use Rattle.tree.specs.Shape.{Shape, fanout, levels, start}
 use Rattle.tree.specs.Path.{held}
-use Rattle.layers.specs.declared.fault.Level.TheVariants.{Data, Tree}
+use Rattle.layers.specs.declared.fault.Level.TheVariants.{Tree}
 use Rattle.layers.specs.declared.fault.Place.{Place}
 use Rattle.layers.specs.declared.fault.StorageFault.{StorageFault}
 use Rattle.layers.specs.declared.fault.StorageFault.TheVariants.{Label, NoBlock, Refused, Mismatch}

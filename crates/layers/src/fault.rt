@@ -1,9 +1,10 @@
 // Why a block was not given.
 ghost use Rattle.std.specs.Prelude.{◌≡◌};
 ghost use Rattle.layers.specs.declared.fault.StorageFault.TheVariants.{Refused};
-ghost use Rattle.layers.specs.Fault.{area_of, data_place, level_number, number_of};
+ghost use Rattle.layers.specs.Fault.{area_of, data_place, level_number, number_of, place_of};
 
 use device::Area;
+use std::fmt;
 
 // The data, or a level of the tree, the lowest being 0.
 #[derive(Clone, Copy, PartialEq, Eq, Debug, Drop)]
@@ -41,6 +42,16 @@ pub struct Place {
     pub block: u32,
 }
 
+impl fmt::Display for Place {
+    fn fmt<W: fmt::Write>(&self, f: &mut fmt::Formatter<W>) -> fmt::Result {
+        let block = self.block;
+        match self.level {
+            Level::Data => write!(f, "data block {block}"),
+            Level::Tree(level) => write!(f, "tree block {block} on level {level}"),
+        }
+    }
+}
+
 impl Place {
     // Data block `k`.
     pub fn data(k: u32) -> Place
@@ -76,6 +87,18 @@ impl<R> StorageFault<R> {
             StorageFault::Mismatch(_) => 11,
         }
     }
+
+    // The block that it names.
+    pub fn place(&self) -> Option<Place>
+        ensures { result ≡ place_of self.now }
+    {
+        match self {
+            StorageFault::Label => None,
+            StorageFault::NoBlock(block) => Some(Place::data(*block)),
+            StorageFault::Refused(place, _) => Some(*place),
+            StorageFault::Mismatch(place) => Some(*place),
+        }
+    }
 }
 
 // A refusal below, put with its place.
@@ -84,5 +107,26 @@ impl<R> From<(R, Place)> for StorageFault<R> {
 
     fn from(refusal: (R, Place)) -> StorageFault<R> {
         StorageFault::Refused(refusal.1, refusal.0)
+    }
+}
+
+impl<R: fmt::Display> fmt::Display for StorageFault<R> {
+    fn fmt<W: fmt::Write>(&self, f: &mut fmt::Formatter<W>) -> fmt::Result {
+        match self {
+            StorageFault::Label => write!(
+                f,
+                "2: a label with a value outside its limit, or of another digest"
+            ),
+            StorageFault::NoBlock(block) => {
+                write!(f, "12: {block} is no data block, or not asked for whole")
+            }
+            StorageFault::Refused(place, below) => write!(f, "10: {place} is refused ({below})"),
+            StorageFault::Mismatch(place) => {
+                write!(
+                    f,
+                    "11: {place} is not the one that the root digest stands for"
+                )
+            }
+        }
     }
 }

@@ -1,9 +1,12 @@
 -- Each answer has as many bytes as were asked for: what the interface asks of a device.
-use Rattle.std.proofs.Common.{◌≡◌, ℕ, ◌+◌, ◌*◌, ◌≤◌, Bool, true, false, cond, List, [], ◌∷◌, length, take, drop, Ok, Err, IfOk, refl, leb, ltb, arith}
+use Rattle.std.proofs.Common.{◌≡◌, ℕ, ◌+◌, ◌*◌, ◌-◌, ◌≤◌, Bool, true, false, cond, List, [], ◌∷◌, length, take, drop, Ok, Err, IfOk, refl, leb, ltb, arith}
 use Rattle.std.proofs.lemmas.List.{length-take, length-drop}
-use Rattle.std.proofs.lemmas.Bool.{and_parts, leb-true}
+use Rattle.std.proofs.lemmas.Bool.{and_parts, cond_both, leb-true}
 use Rattle.device.specs.declared.question.Question.{Question}
 use Rattle.media.specs.Memory.{area_of, inside, memory}
+use Rattle.device.specs.Program.{Meaning, Fits, Sized}
+use Rattle.media.specs.declared.fault.Outside.{Outside}
+use Rattle.media.specs.Turning.{turning}
 use Rattle.media.specs.Tape.{left, used_after, tape}
 
 -- n bytes from m on, if they lie within
@@ -26,3 +29,8 @@ tape-sized bytes used [] q =
     tested (left bytes used q) (take q.length (drop used bytes)) q.length _
     (λ is. piece bytes used q.length (leb-true (used + q.length) (length bytes) (and_parts (ltb 0 q.length) (leb (used + q.length) (length bytes)) is).1))
 tape-sized bytes used (r ∷ qs) q = tape-sized bytes (used_after bytes used r) qs q
+
+pub turning-sized : (first second : Meaning Outside) → Sized first → Sized second → (left : ℕ) → Sized (turning first second left)
+turning-sized first second one other left [] q =
+    cond_both (ltb 0 left) (first [] q) (second [] q) (λ answer. Fits q answer) (λ is. one [] q) (λ is. other [] q)
+turning-sized first second one other left (r ∷ qs) q = turning-sized first second one other (left - 1) qs q

@@ -4,7 +4,9 @@
 mod fault;
 mod memory;
 mod tape;
+mod turning;
 
 pub use fault::{Outside, Spent};
 pub use memory::Memory;
 pub use tape::Tape;
+pub use turning::Turning;

@@ -38,7 +38,11 @@ impl<'a> Device for Tape<'a> {
     ghost moves = { λ t q u. u ≡ record t { used = used_after t.bytes.now t.used q } };
 
     fn ask(&mut self, area: Area, block: u32, buf: &mut [u8]) -> Result<(), Spent> {
-        match self.bytes.get(self.used..).and_then(|rest| rest.get(..buf.len())) {
+        match self
+            .bytes
+            .get(self.used..)
+            .and_then(|rest| rest.get(..buf.len()))
+        {
             Some(next) if !buf.is_empty() => {
                 buf.copy_from_slice(next);
                 self.used += next.len();

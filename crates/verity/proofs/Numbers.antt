@@ -1,6 +1,6 @@
 -- The numbers of a path's places fit their types, and a slot lies in its block.
-use Rattle.std.proofs.Common.{◌≡◌, ℕ, suc, ◌+◌, ◌*◌, ◌/◌, ◌%◌, ◌^◌, ◌<◌, ◌≤◌, arith}
-use Rattle.tree.specs.Shape.{Shape, fanout, levels, start}
+use Rattle.std.proofs.Common.{ℕ, suc, ◌+◌, ◌/◌, ◌^◌, ◌<◌, arith}
+use Rattle.tree.specs.Shape.{fanout, levels, start}
 use Rattle.geometry.specs.declared.geometry.Geometry.{Geometry}
 use Rattle.geometry.specs.Of.{shape_of}
 use Rattle.geometry.proofs.Bounds.{bounds_of, tree_bound}

@@ -1,9 +1,9 @@
 // Copying a label, if it is good.
+ghost use Rattle.std.specs.Prelude.{◌≡◌, ◌≤◌, length, take};
+
 use crate::anchor::Anchored;
 use digest::Digest;
 use geometry::Label;
-
-ghost use Rattle.std.specs.Prelude.{◌≡◌, ◌≤◌, length, take};
 
 // The bytes, and zeros behind them.
 fn filled<const N: usize>(bytes: &[u8]) -> [u8; N]

@@ -1,9 +1,10 @@
 // The path check as a device.
-ghost use Rattle.std.specs.Prelude.{◌≡◌, OnErr, length, replicate};
-ghost use Rattle.device.specs.Answer.{answered, question};
+ghost use Rattle.std.specs.Prelude.{◌≡◌, [], OnErr, length, replicate};
+ghost use Rattle.device.specs.Answer.{answered, filled, question, returned};
 ghost use Rattle.device.specs.Layer.{layered, Through};
 ghost use Rattle.device.specs.Run.{Ran};
 ghost use Rattle.device.proofs.Layers.{layered-sized, through-onward};
+ghost use Rattle.layers.specs.Laws.{AnswerJudged, PathAccepted};
 ghost use Rattle.layers.specs.Verity.{verity as verity_of, verity_layer};
 ghost use Rattle.layers.proofs.Sizes.{verity_layer-fits};
 ghost use Rattle.verity.specs.Anchored.{told_by};
@@ -67,7 +68,13 @@ impl<H: Digest, D: Device> Device for Verity<H, D> {
 
     ghost moves = { λ v q w. Through D.meaning D.moves verity_layer (label_of v) (below_of v) q (label_of w) (below_of w) };
 
-    fn ask(&mut self, area: Area, block: u32, buf: &mut [u8]) -> Result<(), Self::Refusal> {
+    fn ask(&mut self, area: Area, block: u32, buf: &mut [u8]) -> Result<(), Self::Refusal>
+        ensures answer { result ≡ returned (layered verity_layer (label_of self.old) (D.meaning (below_of self.old)) [] (question area block buf.old)) }
+        ensures bytes { buf.new ≡ filled (length buf.old) (layered verity_layer (label_of self.old) (D.meaning (below_of self.old)) [] (question area block buf.old)) }
+        ensures moves { Through D.meaning D.moves verity_layer (label_of self.old) (below_of self.old) (question area block buf.old) (label_of self.new) (below_of self.new) }
+        ensures path { PathAccepted (label_of self.old) (D.meaning (below_of self.old)) (question area block buf.old) (answered result buf.new) }
+        ensures judged { AnswerJudged (label_of self.old) (D.meaning (below_of self.old)) (question area block buf.old) (answered result buf.new) }
+    {
         self.answer(area, block, buf)
     }
 

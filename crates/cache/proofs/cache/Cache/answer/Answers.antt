@@ -1,5 +1,5 @@
-use Rattle.std.proofs.Common.{◌≡◌, length, Ok, Err, sym, subst}
-use Rattle.device.specs.Answer.{answered, question}
+use Rattle.std.proofs.Common.{length, Ok, Err, sym, subst}
+use Rattle.device.specs.Answer.{question}
 use Rattle.device.specs.Run.{Ran}
 use Rattle.device.proofs.Runs.{answered-is, answered-err}
 use Rattle.layers.specs.Cache.{cache_layer}

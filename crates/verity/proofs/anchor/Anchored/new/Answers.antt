@@ -1,4 +1,4 @@
-use Rattle.std.proofs.Common.{◌≡◌, ◌≤◌, length, lit<, arith, true, rules}
+use Rattle.std.proofs.Common.{◌≡◌, lit<, arith, true}
 use Rattle.geometry.specs.Label.{good}
 use Rattle.verity.proofs.Labels.{root_short}
 use Rattle.verity.proofs.anchor.Anchored.new.Goals as goal

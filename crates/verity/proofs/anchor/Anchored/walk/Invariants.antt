@@ -1,4 +1,3 @@
-use Rattle.std.proofs.Common.{◌≡◌, length, replicate}
 use Rattle.device.specs.Answer.{Answer}
 use Rattle.device.specs.Run.{Ran}
 use Rattle.layers.specs.declared.fault.StorageFault.{StorageFault}

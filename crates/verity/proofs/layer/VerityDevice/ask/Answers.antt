@@ -1,12 +1,24 @@
-use Rattle.std.proofs.Common.{◌≡◌, length, ap}
-use Rattle.device.specs.Answer.{answered, question}
+use Rattle.std.proofs.Common.{◌≡◌, length, Option, Some, sym, subst, ap, ◌∙◌}
+use Rattle.device.specs.declared.question.Question.{Question}
+use Rattle.device.specs.Answer.{Answer, answered, question}
+use Rattle.device.specs.Program.{Meaning, result, exchanges}
 use Rattle.device.proofs.Layers.{layer-answer}
-use Rattle.device.proofs.Runs.{returned-is, filled-is}
-use Rattle.layers.specs.Verity.{verity_layer}
+use Rattle.device.proofs.Runs.{ran-end, returned-is, filled-is}
+use Rattle.layers.specs.declared.fault.StorageFault.{StorageFault}
+use Rattle.layers.specs.Anchor.{Anchor}
+use Rattle.layers.specs.Publisher.{anchor_of}
+use Rattle.layers.specs.Judged.{Judged}
+use Rattle.layers.specs.Verity.{verity, verity_layer}
+use Rattle.layers.proofs.Paths.{paths_accepted_lem}
+use Rattle.layers.proofs.Judging.{answers_judged_lem}
 use Rattle.layers.proofs.Walking.{verity-ran}
 use Rattle.verity.specs.Anchored.{kept}
 use Rattle.verity.specs.Layer.{label_of}
 use Rattle.verity.proofs.layer.VerityDevice.ask.Goals as goal
+
+-- the answer of the check, by what the label tells
+of_label : {R : Type 0} (m : Meaning R) (label : Option Anchor) (anchor : Anchor) → label ≡ Some anchor → (q : Question) (x : Answer (StorageFault R)) → x ≡ result m (verity label q) → x ≡ result m (verity (Some anchor) q)
+of_label m label anchor told q x is = is ∙ ap (λ l. result m (verity l q)) told
 
 pub returns-clause-answer : goal.returns-clause-answer
 returns-clause-answer g c =
@@ -34,3 +46,21 @@ returns-clause-moves g c =
     let answer = answered c.answer.result c.answer.new.buf in
     let same : label_of c.answer.new.self ≡ label_of v = ap kept c.answer.ensures.label in
     (answer, rw same (verity-ran g.D.Device.meaning g.D.Device.moves (label_of v) q v.below answer c.answer.new.self.below c.answer.ensures.run))
+
+pub returns-clause-path : goal.returns-clause-path
+returns-clause-path g c anchor told block bytes =
+    let v = c.args.self.now in
+    let q = question c.args.area c.args.block c.args.buf.now in
+    let m = g.D.Device.meaning v.below in
+    let is = of_label m (label_of v) anchor told q _ (ran-end g.D.Device.meaning g.D.Device.moves g.met.D.Device.onward (verity (label_of v) q) v.below _ c.answer.new.self.below c.answer.ensures.run).0 in
+    let law = paths_accepted_lem anchor m q block bytes in
+    (λ e. law.0 (sym is ∙ e), λ path. is ∙ law.1 path)
+
+pub returns-clause-judged : goal.returns-clause-judged
+returns-clause-judged g c p whole told block =
+    let v = c.args.self.now in
+    let q = question c.args.area c.args.block c.args.buf.now in
+    let m = g.D.Device.meaning v.below in
+    let a = anchor_of p in
+    let is = of_label m (label_of v) a told q _ (ran-end g.D.Device.meaning g.D.Device.moves g.met.D.Device.onward (verity (label_of v) q) v.below _ c.answer.new.self.below c.answer.ensures.run).0 in
+    subst (λ x. Judged p q x (exchanges m (verity (Some a) q))) (sym is) (answers_judged_lem p whole m (g.met.D.Device.sized v.below) q block)

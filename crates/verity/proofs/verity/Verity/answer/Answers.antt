@@ -1,4 +1,4 @@
-use Rattle.std.proofs.Common.{◌≡◌, None, Some, ap, sym, ◌∙◌}
+use Rattle.std.proofs.Common.{◌≡◌, None, ap, sym, ◌∙◌}
 use Rattle.device.specs.Answer.{answered, question}
 use Rattle.layers.proofs.Walking.{verity-label, verity-no-block, verity-walks}
 use Rattle.verity.specs.Anchored.{anchor_of, kept}
