@@ -1,8 +1,7 @@
 // A card's label, from the lines that veritysetup printed.
-use anyhow::{Context, anyhow};
+use anyhow::anyhow;
 use geometry::Label;
 use std::alloc::Global;
-use std::str::FromStr;
 use text::{Function, unhex};
 
 #[derive(Drop)]
@@ -17,12 +16,10 @@ pub struct Told {
 
 // What stands behind a name.
 fn value<'a>(text: &'a str, name: &str) -> anyhow::Result<&'a str> {
-    for line in text.lines() {
-        if let Some(rest) = line.strip_prefix(name) {
-            return Ok(rest.trim());
-        }
-    }
-    Err(anyhow!("a label without {name}"))
+    text.lines()
+        .find_map(|line| line.strip_prefix(name))
+        .map(|rest| rest.trim())
+        .ok_or_else(|| anyhow!("a label without {name}"))
 }
 
 fn number(text: &str, name: &str) -> anyhow::Result<u32> {

@@ -12,7 +12,7 @@ pub enum Outcome<R> {
     // With zeros in the buffer.
     Refused(R),
     // With something else in it.
-    Left(R),
+    NotZeros(R),
 }
 
 impl<R> Outcome<R> {
@@ -24,7 +24,7 @@ impl<R> Outcome<R> {
             Ok(()) if buf == want => Outcome::Right,
             Ok(()) => Outcome::Wrong,
             Err(fault) if buf.iter().all(|byte| *byte == 0) => Outcome::Refused(fault),
-            Err(fault) => Outcome::Left(fault),
+            Err(fault) => Outcome::NotZeros(fault),
         }
     }
 }
@@ -42,7 +42,7 @@ impl<R: fmt::Display> fmt::Display for Outcome<R> {
             Outcome::Right => write!(f, "the image's"),
             Outcome::Wrong => write!(f, "NOT the image's"),
             Outcome::Refused(fault) => write!(f, "zeros, refused by {fault}"),
-            Outcome::Left(fault) => write!(f, "NOT zeros, refused by {fault}"),
+            Outcome::NotZeros(fault) => write!(f, "NOT zeros, refused by {fault}"),
         }
     }
 }
