@@ -70,11 +70,15 @@ fn make<D: Digest>(
 // Writes the tree beside its place first, so that no half of it is left under its name.
 fn write_tree(rt: &HostRuntime, name: &str, tree: &[u8]) -> Result<(), Fault> {
     let part = format!(in rt.alloc(); "{name}.part")?;
-    if let Err(error) = fs::write(rt, part.as_str(), tree) {
+    let moved = fs::write(rt, part.as_str(), tree).and_then(|()| fs::rename(
+        rt,
+        part.as_str(),
+        name,
+    ));
+    if let Err(error) = moved {
         let _ = fs::remove_file(rt, part.as_str());
         return Err(Fault::File(part, error));
     }
-    fs::rename(rt, part.as_str(), name)?;
     Ok(())
 }
 

@@ -16,30 +16,34 @@ pub enum Command {
         files: Vec<String>,
     },
     Build(Build),
+    Help,
 }
 
+// Words that the caller chose are quoted, so that each misuse stays on one line.
 #[derive(Debug, Drop, Error)]
 pub enum Misuse {
     #[error("no command")]
     NoCommand,
-    #[error("unknown command: {0}")]
+    #[error("unknown command: {0:?}")]
     UnknownCommand(String),
     #[error("no digest is named")]
     NoDigest,
-    #[error("unknown digest: {0}")]
+    #[error("unknown digest: {0:?}")]
     UnknownDigest(String),
     #[error("no file is named")]
     NoFile,
-    #[error("unknown option: {0}")]
+    #[error("unknown option: {0:?}")]
     UnknownOption(String),
     #[error("no value after {0}")]
     NoValue(String),
-    #[error("not a number: {0}")]
+    #[error("not a number: {0:?}")]
     BadNumber(String),
-    #[error("not a salt in hexadecimal: {0}")]
+    #[error("not a salt in hexadecimal: {0:?}")]
     BadSalt(String),
     #[error("build takes an image and a tree")]
     TwoFiles,
+    #[error("help takes no more words")]
+    HelpAlone,
 }
 
 impl Command {
@@ -49,8 +53,16 @@ impl Command {
         match name.as_str() {
             "sum" => parse_sum(heap, words),
             "build" => Ok(Command::Build(parse_build(heap, words)?)),
+            "help" | "--help" => parse_help(words),
             _ => Err(Fault::from(Misuse::UnknownCommand(name))),
         }
+    }
+}
+
+fn parse_help(mut words: Args) -> Result<Command, Fault> {
+    match words.next() {
+        None => Ok(Command::Help),
+        Some(_) => Err(Fault::from(Misuse::HelpAlone)),
     }
 }
 

@@ -5,21 +5,18 @@ use std::alloc::AllocError;
 use std::io;
 use thiserror::Error;
 
-const USAGE: &str =
-    "usage: card sum sha256|sha512 FILE...\n       card build [--hash sha256|sha512] [--data-block-size D] [--hash-block-size E] [--salt HEX|-] IMAGE TREE";
-
 #[derive(Debug, Drop, Error)]
 pub enum Fault {
     // The words of the command line make no command.
-    #[error("{0}\n{usage}", usage = USAGE)]
+    #[error("{0}; 'card help' tells the usage")]
     Misuse(#[from] Misuse),
     #[error("some files have no sum")]
     Files,
     // The image has no tree.
     #[error(transparent)]
     Tree(#[from] NoTree),
-    // A file could not be read or written.
-    #[error("{0}: {1}")]
+    // A file could not be read or written. Its name is quoted, so that it stays on the line.
+    #[error("{0:?}: {1}")]
     File(String, io::Error),
     // The arguments could not be read, or a line not written.
     #[error(transparent)]

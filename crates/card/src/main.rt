@@ -12,12 +12,16 @@ use fault::Fault;
 use std::process::ExitCode;
 use std::{env, io};
 
+const USAGE: &str =
+    "usage: card sum sha256|sha512 FILE...\n       card build [--hash sha256|sha512] [--data-block-size D] [--hash-block-size E] [--salt HEX|-] IMAGE TREE\n       card help";
+
 fn run(rt: &HostRuntime) -> Result<(), Fault> {
     let mut words = env::args(rt)?;
     let _program = words.next();
     match Command::parse(rt.alloc(), words)? {
         Command::Sum { function, files } => sum::print_sums(rt, function, files.as_slice()),
         Command::Build(asked) => build::build_tree(rt, asked),
+        Command::Help => Ok(println!(rt; "{}", USAGE)?),
     }
 }
 

@@ -31,15 +31,20 @@ fn salt_bytes(heap: Global, text: String) -> Result<Vec<u8>, Fault> {
 impl BuildOptions {
     // Takes an option and its value.
     fn set(&mut self, heap: Global, name: String, value: Option<String>) -> Result<(), Fault> {
-        // the name is still wanted below
-        let Some(value) = value else {
-            return Err(Fault::from(Misuse::NoValue(name)));
-        };
-        match name.as_str() {
-            "--hash" => self.function = spelled(value, Misuse::UnknownDigest)?,
-            "--data-block-size" => self.data_block = spelled(value, Misuse::BadNumber)?,
-            "--hash-block-size" => self.hash_block = spelled(value, Misuse::BadNumber)?,
-            "--salt" => self.salt = salt_bytes(heap, value)?,
+        match (name.as_str(), value) {
+            ("--hash", Some(value)) => self.function = spelled(value, Misuse::UnknownDigest)?,
+            ("--data-block-size", Some(value)) => self.data_block = spelled(
+                value,
+                Misuse::BadNumber,
+            )?,
+            ("--hash-block-size", Some(value)) => self.hash_block = spelled(
+                value,
+                Misuse::BadNumber,
+            )?,
+            ("--salt", Some(value)) => self.salt = salt_bytes(heap, value)?,
+            ("--hash" | "--data-block-size" | "--hash-block-size" | "--salt", None) => {
+                return Err(Fault::from(Misuse::NoValue(name)));
+            }
             _ => return Err(Fault::from(Misuse::UnknownOption(name))),
         }
         Ok(())

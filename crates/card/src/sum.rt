@@ -53,7 +53,7 @@ pub fn print_sums(rt: &HostRuntime, function: Function, files: &[String]) -> Res
         match sum(rt, function, name.as_str()) {
             Ok(hex) => println!(rt; "{hex}  {name}")?,
             Err(why) => {
-                eprintln!(rt; "card: {name}: {why}")?;
+                eprintln!(rt; "card: {name:?}: {why}")?;
                 outcome = Err(Fault::Files);
             }
         }
