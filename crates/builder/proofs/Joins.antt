@@ -18,7 +18,7 @@ module _ (f : ℕ → List ℕ) where
   pub joined_more : (n : ℕ) → flat_map f (range_with_len 0 (n + 1)) ≡ flat_map f (range_with_len 0 n) ++ f n
   joined_more n = joined_split n 1 0 ∙ ap (λ xs. flat_map f (range_with_len 0 n) ++ xs) (append-nil (f (0 + n)) ∙ ap f (zero-add n))
 
-  joined_shift : (b n c : ℕ) → flat_map (λ t. f (b + t)) (range_with_len c n) ≡ flat_map f (range_with_len (b + c) n)
+  pub joined_shift : (b n c : ℕ) → flat_map (λ t. f (b + t)) (range_with_len c n) ≡ flat_map f (range_with_len (b + c) n)
   joined_shift b zero c = refl
   joined_shift b (suc n) c =
       let next : b + (c + 1) ≡ b + c + 1 = omega arith in

@@ -2,3 +2,6 @@ pub mod Ready
 pub mod Joins
 pub mod Rows
 pub mod Climb
+pub mod Upper
+pub mod Hashing
+pub mod Over

@@ -30,7 +30,7 @@ divides n l even h =
       | inr e ↦ subst (λ k. n / k * k ≡ n) (sym (eqb-true l 64 e)) (omega arith)
     ]
 
-sound_salted : (meaning : List ℕ → List ℕ) (salt : List ℕ) (s : Shape) (size : ℕ) → ((m : List ℕ) → length (meaning m) ≡ size) → within s ≡ true → s.slot ≡ size
+pub sound_salted : (meaning : List ℕ → List ℕ) (salt : List ℕ) (s : Shape) (size : ℕ) → ((m : List ℕ) → length (meaning m) ≡ size) → within s ≡ true → s.slot ≡ size
     → Sound (salted meaning salt) s size
 sound_salted meaning salt s size sized limits slots =
     let a = and_parts (is_block_size s.data_block && is_block_size s.hash_block && is_count s.blocks) (is_slot s.slot) limits in

@@ -1,8 +1,9 @@
 -- A level is one row of slots over the row below it, with zeros behind them.
-use Rattle.std.proofs.Common.{◌≡◌, ℕ, zero, suc, ◌+◌, ◌-◌, ◌*◌, ◌<◌, ◌≤◌, cond, ltb, List, [], ◌++◌, length, take, drop, replicate, sym, refl, ap, ◌∙◌, ap₂, inl, inr, mul-le-mul_right, mul_assoc, arith}
+use Rattle.std.proofs.Common.{◌≡◌, ℕ, zero, suc, ◌+◌, ◌-◌, ◌*◌, ◌/◌, ◌<◌, ◌≤◌, cond, ltb, List, [], ◌++◌, length, take, drop, replicate, sym, refl, ap, ◌∙◌, ap₂, inl, inr, mul-le-mul_right, mul_assoc, arith}
 use borrow.Rule.Slice.PartMut.{put_mid}
 use Rattle.std.specs.List.{range_with_len, flat_map}
 use Rattle.std.proofs.lemmas.List.{append_assoc, append-nil, length-append, length-replicate, length-drop, replicate-append-replicate, take_at, drop_at, drop-drop, drop-replicate}
+use native.Mathlib.Nat.{mul-div_cancel}
 use Rattle.std.proofs.lemmas.Nat.{mod_below, div-add-mod'}
 use Rattle.std.proofs.lemmas.Bool.{cond-true, cond-false, lt-ltb, le-ltb, cases_lt}
 use Rattle.tree.specs.Shape.{Shape, fanout, width}
@@ -11,12 +12,13 @@ use Rattle.tree.proofs.Pieces.{length_pieces}
 use Rattle.tree.proofs.Slots.{length-in_slot}
 use Rattle.tree.proofs.Places.{length-level, in_level}
 use Rattle.tree.proofs.Widths.{parent, width_zero}
+use Rattle.builder.specs.InParts.{digests_of}
 use Rattle.builder.specs.Ready.{Ready}
 use Rattle.builder.specs.Parts.{block_len, level_len, row}
 use Rattle.builder.proofs.Joins.{joined_split, joined_more, joined_rows, joined_same, joined_zeros}
 
 -- every block of a width has a slot a step above
-wide_enough : (s : Shape) → 0 < fanout s → (i : ℕ) → width s i ≤ width s (suc i) * fanout s
+pub wide_enough : (s : Shape) → 0 < fanout s → (i : ℕ) → width s i ≤ width s (suc i) * fanout s
 wide_enough s pos i =
     let f = fanout s in
     let w = width s i in
@@ -31,7 +33,7 @@ wide_enough s pos i =
     ]
 
 -- a digest over the zeros behind a front
-over_slot : (front d : List ℕ) (at len r slot : ℕ) → length front ≡ at → length d ≡ len → len ≤ slot → slot ≤ r
+pub over_slot : (front d : List ℕ) (at len r slot : ℕ) → length front ≡ at → length d ≡ len → len ≤ slot → slot ≤ r
     → put_mid at len (front ++ replicate r 0) d ≡ (front ++ in_slot slot d) ++ replicate (r - slot) 0
 over_slot front d at len r slot here sized fits room =
     let parts : r - len ≡ slot - length d + (r - slot) = omega arith in
@@ -39,6 +41,12 @@ over_slot front d at len r slot here sized fits room =
     (ap (drop len) (drop_at front (replicate r 0) at here) ∙ drop-replicate len r 0 ∙ ap (λ k. replicate k 0) parts ∙ sym (replicate-append-replicate (slot - length d) (r - slot) 0))
     ∙ ap (λ xs. front ++ xs) (sym (append_assoc d (replicate (slot - length d) 0) (replicate (r - slot) 0)))
     ∙ sym (append_assoc front (in_slot slot d) (replicate (r - slot) 0))
+
+-- a slot as long as its digest
+pub bare_slot : (slot : ℕ) (d : List ℕ) → length d ≡ slot → in_slot slot d ≡ d
+bare_slot slot d sized =
+    let none : slot - length d ≡ 0 = omega (arith, sized) in
+    ap (λ k. d ++ replicate k 0) none ∙ append-nil d
 
 -- the first j slots of level i
 abbrev slots : (List ℕ → List ℕ) → Shape → List ℕ → ℕ → ℕ → List ℕ
@@ -139,6 +147,19 @@ module _ {meaning : List ℕ → List ℕ} {size : ℕ} {s : Shape} {image salt 
       (flat i ∙ ap₂ (λ a n. flat_map (slot_at i) (range_with_len a n)) none parts ∙ joined_split (slot_at i) w r 0
       ∙ ap₂ (λ xs ys. xs ++ ys) (joined_same (slot_at i) (λ k. in_slot s.slot (h (node h s image i k))) w 0 full)
       (joined_same (slot_at i) (λ k. replicate s.slot 0) r (0 + w) empty ∙ joined_zeros s.slot r (0 + w) ∙ ap (λ k. replicate k 0) rest))
+
+  -- the digests of the data blocks, with zeros behind them, are level 0 where a slot is as long as a digest
+  pub digests_level : size ≡ s.slot → digests_of h s.data_block image ++ replicate (level_len s 0 - s.blocks * size) 0 ≡ level h s image 0
+  unfolding filled node
+  digests_level slot =
+      let d = s.data_block in
+      let count : length image / d ≡ width s 0 = ap (λ k. k / d) ready.whole ∙ mul-div_cancel s.blocks ready.sound.bytes ∙ sym (width_zero s positive) in
+      let all : level_len s 0 - s.blocks * size ≡ level_len s 0 - width s 0 * s.slot = ap₂ (λ x y. level_len s 0 - x * y) (sym (width_zero s positive)) slot in
+      ap₂ (λ n k. flat_map (λ t. h (block_of d image t)) (range_with_len 0 n) ++ replicate k 0) count all
+      ∙ ap (λ xs. xs ++ replicate (level_len s 0 - width s 0 * s.slot) 0)
+      (joined_same (λ t. h (block_of d image t)) (λ t. in_slot s.slot (h (block_of d image t))) (width s 0) 0
+      (λ t low high. sym (bare_slot s.slot (h (block_of d image t)) (ready.sound.sized (block_of d image t) ∙ slot))))
+      ∙ filled_all 0
 
   -- no slot yet
   pub filling_starts : {i n : ℕ} {left buf : List ℕ} → n ≡ block_len s i → left ≡ row h s image i → buf ≡ replicate (level_len s i) 0 → Filling h s image i 0 n left buf

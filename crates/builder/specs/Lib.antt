@@ -2,3 +2,5 @@ pub mod Build
 pub mod Check
 pub mod Ready
 pub mod Parts
+pub mod InParts
+pub mod BaseCheck

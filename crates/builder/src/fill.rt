@@ -3,7 +3,8 @@ use crate::job::Job;
 use digest::Digest;
 
 impl<D: Digest> Job<'_, D> {
-    ghost use Rattle.std.specs.Prelude.{◌≡◌, ◌≤◌, ◌++◌, length, replicate};
+    ghost use Rattle.std.specs.Prelude.{◌≡◌, ◌≤◌, ◌*◌, ◌++◌, length, replicate};
+    ghost use Rattle.builder.specs.InParts.{digests_of};
     ghost use Rattle.builder.specs.Parts.{block_len, len_from, level_len, level_of, lowest_of, root_of, row_of, tree_of};
     ghost use Rattle.geometry.specs.Of.{shape_of};
     ghost use Rattle.tree.specs.Shape.{levels as levels_of};
@@ -17,6 +18,19 @@ impl<D: Digest> Job<'_, D> {
     {
         // The lengths fit, so it is not refused.
         let _ = self.digest.digest(self.salt, block, out);
+    }
+
+    // Writes the salted digest of each data block, in order, over zeros.
+    pub(crate) fn hash_blocks(&self, digests: &mut [u8])
+        requires zeros { digests.old ≡ replicate ((shape_of self.now.geometry).blocks * D.LEN) 0 }
+        ensures { digests.new ≡ digests_of (salted_by D.meaning self.now.salt.now) (shape_of self.now.geometry).data_block self.now.image.now }
+    {
+        let size = self.digest.output_len();
+        // by index, as in `fill_level`
+        for (j, block) in self.image.chunks_exact(self.block_len(0)).enumerate() {
+            let at = j * size;
+            self.salted(block, &mut digests[at..at + size]);
+        }
     }
 
     // Bytes of a block, so many steps above the data.

@@ -1,13 +1,19 @@
 // Writing the tree and the root of an image.
 #![tactic(auto)]
 
+mod above;
+mod base;
 mod check;
 mod fault;
 mod fill;
+mod hash;
 mod job;
 mod make;
 mod source;
 
+pub use above::build_above;
+pub use base::Base;
 pub use fault::BuildFault;
+pub use hash::{hash_blocks, parts_stand};
 pub use make::build;
 pub use source::Source;

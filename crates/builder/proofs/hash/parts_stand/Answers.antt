@@ -1,0 +1,5 @@
+use Rattle.builder.proofs.Hashing.{parts_stand_lem}
+use Rattle.builder.proofs.hash.parts_stand.Goals as goal
+
+pub returns : goal.returns
+returns c = parts_stand_lem
