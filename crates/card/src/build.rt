@@ -1,20 +1,23 @@
 // The command `build`: writes the tree of an image, and prints its label in veritysetup's lines.
-ghost use Rattle.std.specs.Prelude.{◌≡◌, ℕ, ◌+◌, ◌%◌, OnOk, IsErrOf, length};
+ghost use Rattle.std.specs.Prelude.{◌≡◌, ℕ, ◌+◌, ◌%◌, OnOk, IsErrOf};
 
 use crate::fault::Fault;
 use crate::options::{Build, BuildOptions};
-use builder::{BuildFault, Source, build};
+use builder::{Base, BuildFault, Source, build_above, hash_blocks};
 use digest::{Digest, Sha256, Sha512};
 use geometry::Geometry;
+use std::alloc::Global;
 use std::fs;
+use std::fs::File;
+use std::io::Read;
 use text::{Function, hex};
 use thiserror::Error;
 
 // Why there is no tree.
 #[derive(Debug, Drop, Error)]
 pub enum NoTree {
-    #[error("a block size is none of 512, 1024, 2048 and 4096, the image has no data block or more than 1048576, or the salt is longer than 256 bytes")]
-    Limits,
+    #[error("the image has no data block, or more than 1048576")]
+    Blocks,
     // So many bytes are wanting of a whole last block.
     #[error("the image's last data block lacks {0} bytes: pad the image first")]
     Padding(usize),
@@ -30,36 +33,83 @@ struct Built {
     root: Vec<u8>,
 }
 
-// The geometry of the tree over an image of whole blocks, with digests of `size` bytes.
-fn geometry_of(source: &Source<'_>, size: usize) -> Result<Geometry, NoTree>
-    ensures whole { OnOk result (length source.now.image.now % source.now.data_block ≡ 0) }
-    ensures padding { (wanting : ℕ) → IsErrOf result (NoTree.Padding wanting) → (length source.now.image.now + wanting) % source.now.data_block ≡ 0 }
+// So much of the image is in memory at once: whole blocks of any size, and it stays in the processor's cache.
+const PART: usize = 131072;
+
+// The most data blocks are 32768 parts, if they are of 4096 bytes; an image with more parts has no tree.
+const PARTS: usize = 32768;
+
+// A part of so many bytes is whole blocks, unless it is the image's last and lacks some.
+fn check_whole(len: usize, data_block: usize) -> Result<(), NoTree>
+    ensures whole { OnOk result (len % data_block ≡ 0) }
+    ensures padding { (wanting : ℕ) → IsErrOf result (NoTree.Padding wanting) → (len + wanting) % data_block ≡ 0 }
 {
-    let geometry = source.geometry(size).ok_or(NoTree::Limits)?;
-    match source.image.len() % source.data_block {
-        0 => Ok(geometry),
-        over => Err(NoTree::Padding(source.data_block - over)),
+    match len.checked_rem(data_block).ok_or(NoTree::Blocks)? {
+        0 => Ok(()),
+        over => Err(NoTree::Padding(data_block - over)),
     }
 }
 
-fn make<D: Digest>(
-    rt: &HostRuntime,
+// Appends the digests of a part's blocks.
+fn hash_part<D: Digest>(
     digest: &D,
     options: &BuildOptions,
-    image: &[u8],
-) -> Result<Built, Fault> {
-    let heap = rt.alloc();
-    let size = digest.output_len();
+    part: &[u8],
+    digests: &mut Vec<u8>,
+) -> Result<(), Fault> {
+    check_whole(part.len(), options.data_block)?;
     let source = Source {
-        image,
+        image: part,
         data_block: options.data_block,
         hash_block: options.hash_block,
         salt: options.salt.as_slice(),
     };
-    let geometry = geometry_of(&source, size)?;
+    let size = digest.output_len();
+    let geometry = source.geometry(size).ok_or(NoTree::Blocks)?;
+    let start = digests.len();
+    digests.resize(start + geometry.blocks() * size, 0)?;
+    hash_blocks(digest, &source, &mut digests[start..]).map_err(NoTree::Refused)?;
+    Ok(())
+}
+
+// The digests of an image's blocks. The image is read to its end, a part at a time.
+fn read_digests<D: Digest, R: Read>(
+    heap: Global,
+    digest: &D,
+    options: &BuildOptions,
+    image: &mut R,
+) -> Result<Vec<u8>, Fault> {
+    let mut part = Vec::with_capacity(heap, PART)?;
+    let mut digests = Vec::new(heap);
+    for _ in 0..=PARTS {
+        part.clear();
+        image.by_ref().take(PART as u64).read_to_end(&mut part)?;
+        if part.is_empty() {
+            break;
+        }
+        hash_part(digest, options, part.as_slice(), &mut digests)?;
+    }
+    Ok(digests)
+}
+
+fn make<D: Digest>(
+    heap: Global,
+    digest: &D,
+    options: &BuildOptions,
+    image: &mut File,
+) -> Result<Built, Fault> {
+    let digests = read_digests(heap, digest, options, image)?;
+    let base = Base {
+        digests: digests.as_slice(),
+        data_block: options.data_block,
+        hash_block: options.hash_block,
+        salt: options.salt.as_slice(),
+    };
+    let size = digest.output_len();
+    let geometry = base.geometry(size).ok_or(NoTree::Blocks)?;
     let mut tree = vec![in heap; 0u8; geometry.tree_len()]?;
     let mut root = vec![in heap; 0u8; size]?;
-    build(digest, &source, tree.as_mut_slice(), root.as_mut_slice()).map_err(NoTree::Refused)?;
+    build_above(digest, &base, tree.as_mut_slice(), root.as_mut_slice()).map_err(NoTree::Refused)?;
     Ok(Built {
         geometry,
         tree,
@@ -68,22 +118,17 @@ fn make<D: Digest>(
 }
 
 // Writes the tree beside its place first, so that no half of it is left under its name.
-fn write_tree(rt: &HostRuntime, name: &str, tree: &[u8]) -> Result<(), Fault> {
+fn write_tree(rt: &HostRuntime, name: String, tree: &[u8]) -> Result<(), Fault> {
     let part = format!(in rt.alloc(); "{name}.part")?;
     let moved = fs::write(rt, part.as_str(), tree).and_then(|()| fs::rename(
         rt,
         part.as_str(),
-        name,
+        name.as_str(),
     ));
-    if let Err(error) = moved {
+    moved.map_err(|error| {
         let _ = fs::remove_file(rt, part.as_str());
-        return Err(Fault::File(part, error));
-    }
-    Ok(())
-}
-
-fn read_image(rt: &HostRuntime, name: String) -> Result<Vec<u8>, Fault> {
-    fs::read(rt, name.as_str()).map_err(|error| Fault::File(name, error))
+        Fault::File(name, error)
+    })
 }
 
 fn print_label(rt: &HostRuntime, options: &BuildOptions, built: &Built) -> Result<(), Fault> {
@@ -106,14 +151,20 @@ fn print_label(rt: &HostRuntime, options: &BuildOptions, built: &Built) -> Resul
     Ok(())
 }
 
+// The tree of an image, by the digest that is asked for.
+fn build_image(rt: &HostRuntime, options: &BuildOptions, name: &str) -> Result<Built, Fault> {
+    let mut image = File::open(rt, name)?;
+    // a closure cannot be generic over the digest
+    match options.function {
+        Function::Sha256 => make(rt.alloc(), &Sha256, options, &mut image),
+        Function::Sha512 => make(rt.alloc(), &Sha512, options, &mut image),
+    }
+}
+
 pub fn build_tree(rt: &HostRuntime, asked: Build) -> Result<(), Fault> {
     let options = asked.options;
-    let image = read_image(rt, asked.image)?;
-    // a closure cannot be generic over the digest
-    let made = match options.function {
-        Function::Sha256 => make(rt, &Sha256, &options, image.as_slice())?,
-        Function::Sha512 => make(rt, &Sha512, &options, image.as_slice())?,
-    };
-    write_tree(rt, asked.tree.as_str(), made.tree.as_slice())?;
-    print_label(rt, &options, &made)
+    let image = asked.image;
+    let built = build_image(rt, &options, image.as_str()).map_err(|fault| fault.of_file(image))?;
+    write_tree(rt, asked.tree, built.tree.as_slice())?;
+    print_label(rt, &options, &built)
 }

@@ -3,6 +3,7 @@ ghost use Rattle.std.specs.Prelude.{IfOk, Ok, string_bytes};
 
 use crate::fault::Fault;
 use crate::options::{Build, parse_build};
+use geometry::SALT_LIMIT;
 use std::alloc::Global;
 use std::env::Args;
 use std::str::FromStr;
@@ -38,8 +39,12 @@ pub enum Misuse {
     NoValue(String),
     #[error("not a number: {0:?}")]
     BadNumber(String),
+    #[error("not a block size: {0}, where 512, 1024, 2048 and 4096 are")]
+    BlockSize(usize),
     #[error("not a salt in hexadecimal: {0:?}")]
     BadSalt(String),
+    #[error("a salt of {0} bytes, where the limit is {limit}", limit = SALT_LIMIT)]
+    LongSalt(usize),
     #[error("build takes an image and a tree")]
     TwoFiles,
     #[error("help takes no more words")]

@@ -24,3 +24,13 @@ pub enum Fault {
     #[error("out of memory")]
     Memory(#[from(alloc)] AllocError),
 }
+
+impl Fault {
+    // That it was this file that could not be read.
+    pub fn of_file(self, name: String) -> Fault {
+        match self {
+            Fault::Io(error) => Fault::File(name, error),
+            fault => fault,
+        }
+    }
+}

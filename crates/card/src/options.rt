@@ -1,6 +1,10 @@
 // The options of `build`, under veritysetup's names and with its defaults. The salt's default is the empty one.
+ghost use Rattle.std.specs.Prelude.{◌≡◌, ◌≤◌, true, IfOk, length};
+ghost use Rattle.geometry.specs.Limits.{is_block_size};
+
 use crate::command::{Misuse, spelled};
 use crate::fault::Fault;
+use geometry::{Geometry, SALT_LIMIT};
 use std::alloc::Global;
 use std::env::Args;
 use text::{Function, unhex};
@@ -21,11 +25,28 @@ pub struct Build {
     pub tree: String,
 }
 
-fn salt_bytes(heap: Global, text: String) -> Result<Vec<u8>, Fault> {
+// A number that a data block and a tree block may have as their size.
+fn block_size(text: String) -> Result<usize, Misuse>
+    ensures { IfOk result (λ size. is_block_size size ≡ true) }
+{
+    let size = spelled(text, Misuse::BadNumber)?;
+    match Geometry::new(size, size, 1, 32) {
+        Some(_) => Ok(size),
+        None => Err(Misuse::BlockSize(size)),
+    }
+}
+
+fn salt_bytes(heap: Global, text: String) -> Result<Vec<u8>, Fault>
+    ensures { IfOk result (λ salt. length salt.items ≤ 256) }
+{
     if text.as_str() == "-" {
         return Ok(Vec::new(heap));
     }
-    Ok(unhex(heap, text.as_bytes())?.ok_or(Misuse::BadSalt(text))?)
+    let salt = unhex(heap, text.as_bytes())?.ok_or(Misuse::BadSalt(text))?;
+    if salt.len() > SALT_LIMIT {
+        return Err(Fault::from(Misuse::LongSalt(salt.len())));
+    }
+    Ok(salt)
 }
 
 impl BuildOptions {
@@ -33,14 +54,8 @@ impl BuildOptions {
     fn set(&mut self, heap: Global, name: String, value: Option<String>) -> Result<(), Fault> {
         match (name.as_str(), value) {
             ("--hash", Some(value)) => self.function = spelled(value, Misuse::UnknownDigest)?,
-            ("--data-block-size", Some(value)) => self.data_block = spelled(
-                value,
-                Misuse::BadNumber,
-            )?,
-            ("--hash-block-size", Some(value)) => self.hash_block = spelled(
-                value,
-                Misuse::BadNumber,
-            )?,
+            ("--data-block-size", Some(value)) => self.data_block = block_size(value)?,
+            ("--hash-block-size", Some(value)) => self.hash_block = block_size(value)?,
             ("--salt", Some(value)) => self.salt = salt_bytes(heap, value)?,
             ("--hash" | "--data-block-size" | "--hash-block-size" | "--salt", None) => {
                 return Err(Fault::from(Misuse::NoValue(name)));
