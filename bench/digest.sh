@@ -5,25 +5,14 @@
 set -eu
 
 here=$(CDPATH= cd -- "$(dirname -- "$0")" && pwd)
-root=$(dirname -- "$here")
+. "$here/program.sh"
 command -v openssl >/dev/null || { echo "bench: no openssl" >&2; exit 1; }
 
 room=$(mktemp -d)
 trap 'rm -rf "$room"' EXIT
 trap 'exit 1' HUP INT TERM
 
-# A repository of the libraries and the timing program alone.
-mkdir -p "$room/crates/speed/src"
-for crate in constants sha2_block digest; do cp -r "$root/crates/$crate" "$room/crates/"; done
-rm -rf "$room"/crates/*/out
-cp "$here/speed.rs.txt" "$room/crates/speed/src/main.rt"
-printf '%s\n' 'constants:' 'sha2_block: constants' 'digest: constants sha2_block' 'speed: digest anyhow' >"$room/crates.txt"
-
-if ! (cd "$room/crates/speed" && rt run) >"$room/check.log" 2>&1; then
-    tail -n 20 "$room/check.log" >&2
-    echo "bench: the timing program was not proved, so it was not built" >&2
-    exit 1
-fi
+digest_program "$room"
 
 # Kilobytes of 1,000 bytes in a second, the best of three runs of a second each.
 openssl_rate() {

@@ -33,10 +33,10 @@ struct Built {
     root: Vec<u8>,
 }
 
-// So much of the image is in memory at once: whole blocks of any size, and it stays in the processor's cache.
+// So much of the image is in memory at once: whole blocks of any size, and few enough to stay in a processor's cache.
 const PART: usize = 131072;
 
-// The most data blocks are 32768 parts, if they are of 4096 bytes; an image with more parts has no tree.
+// An image of more parts has no tree: its blocks are too many, even if they are of 4096 bytes.
 const PARTS: usize = 32768;
 
 // A part of so many bytes is whole blocks, unless it is the image's last and lacks some.
@@ -50,7 +50,17 @@ fn check_whole(len: usize, data_block: usize) -> Result<(), NoTree>
     }
 }
 
-// Appends the digests of a part's blocks.
+// What the tree is built over, once the digests are there.
+fn base_of<'a>(options: &'a BuildOptions, digests: &'a [u8]) -> Base<'a> {
+    Base {
+        digests,
+        data_block: options.data_block,
+        hash_block: options.hash_block,
+        salt: options.salt.as_slice(),
+    }
+}
+
+// Appends the digests of a part's blocks, unless they are then too many.
 fn hash_part<D: Digest>(
     digest: &D,
     options: &BuildOptions,
@@ -68,6 +78,9 @@ fn hash_part<D: Digest>(
     let geometry = source.geometry(size).ok_or(NoTree::Blocks)?;
     let start = digests.len();
     digests.resize(start + geometry.blocks() * size, 0)?;
+    base_of(options, digests.as_slice())
+        .geometry(size)
+        .ok_or(NoTree::Blocks)?;
     hash_blocks(digest, &source, &mut digests[start..]).map_err(NoTree::Refused)?;
     Ok(())
 }
@@ -81,15 +94,16 @@ fn read_digests<D: Digest, R: Read>(
 ) -> Result<Vec<u8>, Fault> {
     let mut part = Vec::with_capacity(heap, PART)?;
     let mut digests = Vec::new(heap);
+    // a part more than that, so that the end is seen of an image of so many
     for _ in 0..=PARTS {
         part.clear();
         image.by_ref().take(PART as u64).read_to_end(&mut part)?;
         if part.is_empty() {
-            break;
+            return Ok(digests);
         }
         hash_part(digest, options, part.as_slice(), &mut digests)?;
     }
-    Ok(digests)
+    Err(Fault::from(NoTree::Blocks))
 }
 
 fn make<D: Digest>(
@@ -99,12 +113,7 @@ fn make<D: Digest>(
     image: &mut File,
 ) -> Result<Built, Fault> {
     let digests = read_digests(heap, digest, options, image)?;
-    let base = Base {
-        digests: digests.as_slice(),
-        data_block: options.data_block,
-        hash_block: options.hash_block,
-        salt: options.salt.as_slice(),
-    };
+    let base = base_of(options, digests.as_slice());
     let size = digest.output_len();
     let geometry = base.geometry(size).ok_or(NoTree::Blocks)?;
     let mut tree = vec![in heap; 0u8; geometry.tree_len()]?;
