@@ -1,5 +1,7 @@
 // The command `build`: writes the tree of an image, and prints its label in veritysetup's lines.
-ghost use Rattle.std.specs.Prelude.{◌≡◌, ℕ, ◌+◌, ◌%◌, OnOk, IsErrOf};
+ghost use Rattle.std.specs.Prelude.{◌≡◌, ℕ, ◌+◌, ◌++◌, ◌%◌, OnOk, IsErrOf, length};
+ghost use Rattle.builder.specs.InParts.{digests_of};
+ghost use Rattle.tree.specs.Tree.{salted};
 
 use crate::fault::Fault;
 use crate::options::{Build, BuildOptions};
@@ -66,7 +68,10 @@ fn hash_part<D: Digest>(
     options: &BuildOptions,
     part: &[u8],
     digests: &mut Vec<u8>,
-) -> Result<(), Fault> {
+) -> Result<(), Fault>
+    ensures whole { OnOk result (length part.now % options.now.data_block ≡ 0) }
+    ensures appended { OnOk result (digests.new.items ≡ digests.old.items ++ digests_of (salted D.meaning options.now.salt.items) options.now.data_block part.now) }
+{
     check_whole(part.len(), options.data_block)?;
     let source = Source {
         image: part,
