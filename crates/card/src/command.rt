@@ -23,6 +23,8 @@ pub enum Command {
 // Words that the caller chose are quoted, so that each misuse stays on one line.
 #[derive(Debug, Drop, Error)]
 pub enum Misuse {
+    #[error("a word of the command line is not UTF-8")]
+    NotText,
     #[error("no command")]
     NoCommand,
     #[error("unknown command: {0:?}")]
