@@ -2,7 +2,7 @@
 use Rattle.std.specs.Prelude.{List, [], ◌∷◌, ◌++◌}
 use Rattle.device.specs.declared.question.Question.{Question}
 use Rattle.device.specs.Answer.{Answer}
-use Rattle.device.specs.Program.{Program, Meaning, Exchange, after, result, asked, exchanges}
+use Rattle.device.specs.Program.{Program, done, ask, bind, Meaning, Exchange, after, result, asked, exchanges}
 use Rattle.device.specs.Run.{Ran}
 
 -- the meaning of a layer in state s over a device of this meaning
@@ -22,6 +22,12 @@ meaning_after layer s below (q ∷ qs) = meaning_after layer (result below (laye
 abbrev pub asked_for : {S R Q : Type 0} → (S → Question → Program R (Answer Q × S)) → S → Meaning R → List Question → List (Exchange R)
 asked_for layer s below [] = []
 asked_for layer s below (q ∷ qs) = exchanges below (layer s q) ++ asked_for layer (result below (layer s q)).1 (after below (asked below (layer s q))) qs
+
+-- a program of questions to the layer, as a program of questions to the device below: each question is replaced by the
+-- layer's program for it
+abbrev pub through : {S R Q A : Type 0} → (S → Question → Program R (Answer Q × S)) → Program Q A → S → Program R (A × S)
+through layer (done a) s = done (a, s)
+through layer (ask q next) s = bind (layer s q) (λ answered. through layer (next answered.0) answered.1)
 
 -- a question takes the layer from state s over d to state t over e, by the questions that the layer's program puts to the device below
 abbrev pub Through : {S R Q D : Type 0} → (D → Meaning R) → (D → Question → D → Type 0) → (S → Question → Program R (Answer Q × S)) → S → D → Question → S → D → Type 0

@@ -1,0 +1,5 @@
+pub mod Refusal
+pub mod Calls
+pub mod Mount
+pub mod Image
+pub mod Law
