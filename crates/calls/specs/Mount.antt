@@ -4,7 +4,7 @@ use Rattle.std.specs.Prelude.{ℕ, ◌*◌, Result, Ok, Err, Option, Some, None}
 use Rattle.device.specs.declared.question.Question.{Question}
 use Rattle.device.specs.Answer.{Answer}
 use Rattle.device.specs.Program.{Program, done, bind}
-use Rattle.device.specs.Layer.{through}
+use Rattle.device.specs.Layer.{through, stacked}
 use Rattle.tree.specs.Shape.{Shape}
 use Rattle.layers.specs.declared.fault.StorageFault.{StorageFault}
 use Rattle.layers.specs.Anchor.{Anchor}
@@ -35,12 +35,12 @@ abbrev pub by_label : {F : Type 0} → Option Anchor → State → Call → Prog
 by_label None s call = done (Err (Mount Label))
 by_label (Some anchor) s call = by_blocks anchor.shape.data_block (call_rules (image_length anchor.shape) s call)
 
--- those through the cache, and what it asks through the path check
-unfoldable pub store : {R A : Type 0} → Program (StorageFault R) A → cache.Table → Option Anchor → Program R ((A × cache.Table) × Option Anchor)
-store p table label = through verity_layer (through cache.cache_layer p table) label
+-- the store that the volume is read from: the cache over the path check, with the cache's rows and what the label tells
+abbrev pub store : {R : Type 0} → cache.Table × Option Anchor → Question → Program R (Answer (StorageFault R) × (cache.Table × Option Anchor))
+store = stacked cache.cache_layer verity_layer
 
 -- a call of a mount, by questions to the device: its reply, and the mount after it
 unfoldable pub mount : {R : Type 0} → Mounted → Call → Program R (Reply (StorageFault R) × Mounted)
 mount m call =
-    bind (store (by_label m.label m.state call) m.table m.label)
-    (λ end. done (reply_of call end.0.0, record { label = end.1; table = end.0.1; state = state_of m.state end.0.0 }))
+    bind (through store (by_label m.label m.state call) (m.table, m.label))
+    (λ end. done (reply_of call end.0, record { label = end.1.1; table = end.1.0; state = state_of m.state end.0 }))

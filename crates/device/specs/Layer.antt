@@ -29,6 +29,10 @@ abbrev pub through : {S R Q A : Type 0} → (S → Question → Program R (Answe
 through layer (done a) s = done (a, s)
 through layer (ask q next) s = bind (layer s q) (λ answered. through layer (next answered.0) answered.1)
 
+-- a layer over a layer: one layer, with both states
+abbrev pub stacked : {S T R Q U : Type 0} → (S → Question → Program Q (Answer U × S)) → (T → Question → Program R (Answer Q × T)) → S × T → Question → Program R (Answer U × (S × T))
+stacked upper lower both q = bind (through lower (upper both.0 q) both.1) (λ end. done (end.0.0, (end.0.1, end.1)))
+
 -- a question takes the layer from state s over d to state t over e, by the questions that the layer's program puts to the device below
 abbrev pub Through : {S R Q D : Type 0} → (D → Meaning R) → (D → Question → D → Type 0) → (S → Question → Program R (Answer Q × S)) → S → D → Question → S → D → Type 0
 Through meaning moves layer s d q t e = (answer : _) × Ran meaning moves d (layer s q) (answer, t) e

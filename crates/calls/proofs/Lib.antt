@@ -1,0 +1,4 @@
+pub mod Fair
+pub mod Lift
+pub mod Stores
+pub mod Fetching
