@@ -28,7 +28,7 @@ abbrev pub IsTold : Publisher → Option Anchor → Type 0
 IsTold p label = label ≡ Some (anchor_of p)
 
 module _ {R : Type 0} (p : Publisher) (whole : Whole p) where
-  verity_fair : (m : Meaning R) → Sized m → (label : Option Anchor) → IsTold p label → (q : Question) → is_block p.shape q ≡ true → NoTwin p (exchanges m (verity_layer label q))
+  pub verity_fair : (m : Meaning R) → Sized m → (label : Option Anchor) → IsTold p label → (q : Question) → is_block p.shape q ≡ true → NoTwin p (exchanges m (verity_layer label q))
       → IsFair p q (result m (verity_layer label q)).0 (exchanges m (verity_layer label q)) × IsTold p (result m (verity_layer label q)).1
   verity_fair m sized label told q block none =
       let check = verity {R = R} label q in
@@ -41,14 +41,14 @@ module _ {R : Type 0} (p : Publisher) (whole : Whole p) where
       subst (λ (e : Answer (StorageFault R) × Option Anchor). IsFair p q e.0 (exchanges m (verity_layer label q)) × IsTold p e.1) (sym end)
       (subst (IsFair p q (result m check)) (sym xs) fair, told)
 
-  pub verity_store : Store R (Option Anchor) p
+  abbrev pub verity_store : Store R (Option Anchor) p
   verity_store = record { rule = verity_layer; Keeps = IsTold p; fair = verity_fair }
 
 module _ {R S : Type 0} (p : Publisher) (lower : Store R S p) where
-  abbrev Keeps : Table × S → Type 0
+  abbrev pub Keeps : Table × S → Type 0
   Keeps both = AllRight p both.0 × lower.Keeps both.1
 
-  kept_right : (table : Table) (q : Question) (answer : Answer (StorageFault R)) (xs : List (Exchange R)) → AllRight p table → IsFair p q answer xs → AllRight p (keep table q answer)
+  pub kept_right : (table : Table) (q : Question) (answer : Answer (StorageFault R)) (xs : List (Exchange R)) → AllRight p table → IsFair p q answer xs → AllRight p (keep table q answer)
   kept_right table q (Err fault) xs right fair = right
   kept_right table q (Ok bytes) xs right fair =
       let row : Row = record { question = q; bytes = bytes } in
@@ -56,10 +56,10 @@ module _ {R S : Type 0} (p : Publisher) (lower : Store R S p) where
       tested (leb (length bytes) 4096) (λ b. AllRight p (cond b new table)) (λ is. all-set (IsRight p) table.rows table.turn row right fair) (λ is. right)
 
   module _ (m : Meaning R) (sized : Sized m) (table : Table) (s : S) (keeps : Keeps (table, s)) (q : Question) (block : is_block p.shape q ≡ true) where
-    abbrev over : Option (List ℕ) → Program R (Answer (StorageFault R) × (Table × S))
+    abbrev pub over : Option (List ℕ) → Program R (Answer (StorageFault R) × (Table × S))
     over o = bind (through lower.rule (cached table q o) s) (λ end. done (end.0.0, (end.0.1, end.1)))
 
-    by_found : (o : Option (List ℕ)) → find q table.rows ≡ o → NoTwin p (exchanges m (over o)) → IsFair p q (result m (over o)).0 (exchanges m (over o)) × Keeps (result m (over o)).1
+    pub by_found : (o : Option (List ℕ)) → find q table.rows ≡ o → NoTwin p (exchanges m (over o)) → IsFair p q (result m (over o)).0 (exchanges m (over o)) × Keeps (result m (over o)).1
     by_found (Some bytes) is none = (found (IsRight p) q table.rows bytes keeps.0 is, keeps)
     by_found None is none =
         let first = lower.rule s q in
@@ -72,10 +72,10 @@ module _ {R S : Type 0} (p : Publisher) (lower : Store R S p) where
         subst (λ (e : Answer (StorageFault R) × (Table × S)). IsFair p q e.0 (exchanges m (over None)) × Keeps e.1) (sym end)
         (subst (IsFair p q r.0) (sym xs) fair.0, (kept_right table q r.0 (exchanges m first) keeps.0 fair.0, fair.1))
 
-    cache_fair : NoTwin p (exchanges m (stacked cache_layer lower.rule (table, s) q))
+    pub cache_fair : NoTwin p (exchanges m (stacked cache_layer lower.rule (table, s) q))
         → IsFair p q (result m (stacked cache_layer lower.rule (table, s) q)).0 (exchanges m (stacked cache_layer lower.rule (table, s) q)) × Keeps (result m (stacked cache_layer lower.rule (table, s) q)).1
     unfolding cache_layer
     cache_fair none = by_found (find q table.rows) refl none
 
-  pub cache_store : Store R (Table × S) p
+  abbrev pub cache_store : Store R (Table × S) p
   cache_store = record { rule = stacked cache_layer lower.rule; Keeps = Keeps; fair = λ m sized both keeps q block none. cache_fair m sized both.0 both.1 keeps q block none }

@@ -66,3 +66,15 @@ abbrev pub LawOfRuns : {D R : Type 0} → (D → Meaning R) → (D → Question 
 LawOfRuns {D = D} {R = R} meaning moves =
     (p : Publisher) → Whole p → within p.shape ≡ true → (d e : D) (xs : List (Event R)) (n : Mounted) → Used meaning moves (made (Some (anchor_of p))) d xs n e
     → Kept meaning moves p d xs e
+
+-- each answer is the image's
+abbrev pub IsImage : {R : Type 0} → Publisher → State → List (Event R) → Type 0
+IsImage p s [] = Unit {0}
+IsImage p s (x ∷ xs) = (x.reply ≡ image_reply p s x.call) × IsImage p (image_state p s x.call x.reply) xs
+
+-- over a device that gives the publisher's blocks, every answer of every use is exactly the image's: a mount that always
+-- faults, or always says that nothing is there, is none
+abbrev pub HonestIsImage : {D R : Type 0} → (D → Meaning R) → (D → Question → D → Type 0) → Type 0
+HonestIsImage {D = D} {R = R} meaning moves =
+    (p : Publisher) → Whole p → within p.shape ≡ true → (d e : D) (xs : List (Event R)) (n : Mounted) → Used meaning moves (made (Some (anchor_of p))) d xs n e
+    → Honest p (all_exchanges xs) → IsImage p fresh xs

@@ -1,6 +1,8 @@
 // The rules of the six calls, the publisher's image, and the law of runs.
 #![tactic(auto)]
 
+mod law;
 mod refusal;
 
+pub use law::{honest_is_image, law_of_runs};
 pub use refusal::{MountRule, Refusal};

@@ -25,18 +25,18 @@ answers_judged_lem {R = R} p whole m sized q is =
     (subst (λ r. Judged p r (result m way) (exchanges m way)) (sym parts.1) (judged p whole q.block parts.0 m sized))
 
 -- where one answer is given and the publisher's block is another, the device was not honest
-wrong : {R : Type 0} (p : Publisher) (x : Exchange R) (xs : List (Exchange R)) (right : List ℕ) (answer : Answer R) → Honest p (x ∷ xs) → right_block p x.question ≡ Some right → x.answer ≡ answer → answer ≡ Ok right
+pub wrong : {R : Type 0} (p : Publisher) (x : Exchange R) (xs : List (Exchange R)) (right : List ℕ) (answer : Answer R) → Honest p (x ∷ xs) → right_block p x.question ≡ Some right → x.answer ≡ answer → answer ≡ Ok right
 wrong p x xs right answer honest published was = sym was ∙ honest.0 right published
 
-same_block : {R : Type 0} (a b : List ℕ) → ◌≡◌ {A = Answer R} (Ok a) (Ok b) → a ≡ b
+pub same_block : {R : Type 0} (a b : List ℕ) → ◌≡◌ {A = Answer R} (Ok a) (Ok b) → a ≡ b
 same_block a b e = cc
 
-some_of : {A : Type 0} (o : Option A) → IsSome o → (a : A) × (o ≡ Some a)
+pub some_of : {A : Type 0} (o : Option A) → IsSome o → (a : A) × (o ≡ Some a)
 some_of None is = absurd (false≢true is)
 some_of (Some a) is = (a, refl)
 
 -- what an honest device gave is no twin, and nothing of it is wrong
-no_twin : {R : Type 0} (p : Publisher) (xs : List (Exchange R)) → Honest p xs → NoTwin p xs
+pub no_twin : {R : Type 0} (p : Publisher) (xs : List (Exchange R)) → Honest p xs → NoTwin p xs
 no_twin p [] honest = tt
 no_twin p (x ∷ xs) honest = (λ twin. twin.unlike (same_block twin.given twin.right (wrong p x xs twin.right (Ok twin.given) honest twin.published twin.answered)), no_twin p xs honest.1)
 

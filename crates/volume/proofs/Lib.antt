@@ -1,2 +1,4 @@
 pub mod Clean
 pub mod Slices
+pub mod Rules
+pub mod Gives
