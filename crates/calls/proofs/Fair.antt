@@ -1,6 +1,6 @@
 -- Programs of questions to a store of the publisher's blocks: what holds at their end, if each answer is the publisher's block
 -- or one fault, after which nothing is asked.
-use Rattle.std.proofs.Common.{◌≡◌, ℕ, true, List, [], ◌∷◌, ◌++◌, Option, None, Some, IfSome, Result, Ok, Err}
+use Rattle.std.proofs.Common.{◌≡◌, ℕ, true, List, Option, None, Some, Ok, Err}
 use Rattle.device.specs.declared.question.Question.{Question}
 use Rattle.device.specs.Answer.{Answer}
 use Rattle.device.specs.Program.{Program, done, ask, bind, Exchange, Somewhere}

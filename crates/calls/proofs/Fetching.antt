@@ -1,23 +1,20 @@
 -- A fetch by the publisher's blocks gives the image's bytes, and a program of fetches comes to what it comes to by the image.
-use Rattle.std.proofs.Common.{◌≡◌, ◌⊎◌, ℕ, zero, suc, ◌+◌, ◌-◌, ◌*◌, ◌/◌, ◌%◌, ◌≤◌, ◌<◌, Bool, true, false, cond, eqb, List, [], ◌∷◌, ◌++◌, length, take, drop, Option, None, Some, Result, Ok, Err, refl, sym, ap, ap₂, ◌∙◌, subst, arith, mul-le-mul_right, inl, inr}
-use Rattle.std.proofs.lemmas.Bool.{cond-true, cond-false, cases_eq, eq-eqb, ne_eqb, and_from, lt-ltb}
+use Rattle.std.proofs.Common.{◌≡◌, ◌⊎◌, ℕ, zero, suc, ◌+◌, ◌-◌, ◌*◌, ◌/◌, ◌%◌, ◌≤◌, ◌<◌, eqb, List, ◌++◌, length, take, drop, Option, None, Some, Result, Ok, Err, refl, sym, ap, ap₂, ◌∙◌, subst, arith, inl, inr}
+use Rattle.std.proofs.lemmas.Bool.{cond-true, cond-false, cases_eq, eq-eqb, ne_eqb}
 use Rattle.std.proofs.lemmas.List.{drop-drop}
 use Rattle.std.proofs.lemmas.Nat.{mod_below, div-add-mod', div_below, le-div}
 use Rattle.std.proofs.Math.Nat.{div-mul-le_self, add-mul}
-use Rattle.device.specs.declared.question.Area.TheVariants as area
-use Rattle.device.specs.declared.question.Question.{Question}
 use Rattle.device.specs.Answer.{Answer}
-use Rattle.device.specs.Program.{Program, done, ask, bind}
-use Rattle.tree.specs.Tree.{block_of, node}
+use Rattle.device.specs.Program.{Program, done}
+use Rattle.tree.specs.Tree.{node}
 use Rattle.layers.specs.declared.fault.StorageFault.{StorageFault}
-use Rattle.layers.specs.Verity.{is_block}
 use Rattle.layers.specs.Path.{data_question}
 use Rattle.layers.specs.Publisher.{Publisher, Whole, right_block}
 use Rattle.layers.proofs.Blocks.{within, right_data}
 use Rattle.volume.specs.Fetches.{Fetches, give, refuse, fetch, by_image, blocks, touched, fetch_blocks, by_blocks}
 use Rattle.volume.proofs.Clean.{Clean}
 use Rattle.volume.proofs.Slices as slices
-use Rattle.calls.proofs.Fair.{Post, Fair, fair-more, fair-bind}
+use Rattle.calls.proofs.Fair.{Fair, fair-more, fair-bind}
 
 -- it comes to these bytes, or to the fault that was seen
 abbrev pub Comes : {R : Type 0} → List ℕ → Answer (StorageFault R) → Option (StorageFault R) → Type 0

@@ -1,16 +1,15 @@
 -- What stands between the volume and the device is a store. Where a store is fair, so is any program through it.
-use Rattle.std.proofs.Common.{◌≡◌, ℕ, true, List, [], ◌∷◌, ◌++◌, Option, None, Some, IfSome, Result, Ok, Err, refl, sym, ap, subst, inl, inr}
-use Rattle.std.specs.List.{AllByRecursion}
+use Rattle.std.proofs.Common.{◌≡◌, ℕ, true, List, [], ◌∷◌, ◌++◌, Option, None, Some, IfSome, Ok, Err, sym, subst}
 use Rattle.device.specs.declared.question.Question.{Question}
 use Rattle.device.specs.Answer.{Answer}
-use Rattle.device.specs.Program.{Program, done, ask, bind, Meaning, Exchange, Somewhere, Sized, after, result, asked, exchanges}
+use Rattle.device.specs.Program.{Program, done, ask, bind, Meaning, Exchange, Sized, after, result, asked, exchanges}
 use Rattle.device.specs.Layer.{through}
 use Rattle.device.proofs.Runs.{result-bind}
 use Rattle.device.proofs.Exchanges.{sized-after, exchanges-bind}
 use Rattle.layers.specs.declared.fault.StorageFault.{StorageFault}
 use Rattle.layers.specs.declared.fault.StorageFault.TheVariants.{Label, NoBlock, Refused, Mismatch}
 use Rattle.layers.specs.Verity.{is_block}
-use Rattle.layers.specs.Publisher.{Publisher, Twin, NoTwin, Differs, right_block}
+use Rattle.layers.specs.Publisher.{Publisher, NoTwin, Differs, right_block}
 use Rattle.layers.specs.Judged.{IsFor, WasRefused}
 use Rattle.layers.proofs.Caching.{still, behind}
 use Rattle.calls.proofs.Fair.{Blames, IsFair, Post, Fair}
@@ -92,7 +91,7 @@ module _ {R S A : Type 0} (p : Publisher) (store : Store R S p) (post : Post R A
       let quiet : NoTwin p (ys ++ exchanges left (on r)) = subst (NoTwin p) split none in
       let here = store.fair m sized s keeps q fair.0 (none-first p ys (exchanges left (on r)) quiet) in
       let ends : Ends (result left (on r)) (ys ++ exchanges left (on r)) =
-          rest q next fair.2 r.1 here.1 left ys
-          (λ block right quiet'. lift (next (Ok block)) (fair.1 block right) r.1 here.1 left (sized-after m (asked m first) sized) quiet')
-          r.0 here.0 (none-second p ys (exchanges left (on r)) quiet) in
+      rest q next fair.2 r.1 here.1 left ys
+      (λ block right quiet'. lift (next (Ok block)) (fair.1 block right) r.1 here.1 left (sized-after m (asked m first) sized) quiet')
+      r.0 here.0 (none-second p ys (exchanges left (on r)) quiet) in
       subst (λ e. Ends e (exchanges m (bind first on))) (sym (result-bind first on m)) (subst (Ends (result left (on r))) (sym split) ends)

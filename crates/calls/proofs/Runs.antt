@@ -1,25 +1,24 @@
 -- The law of runs, by induction on the use.
-use Rattle.std.proofs.Common.{◌≡◌, ◌⊎◌, ℕ, true, List, [], ◌∷◌, ◌++◌, map, Option, None, Some, IsSome, IfSome, Result, Ok, Err, refl, sym, ap, ap₂, ◌∙◌, subst, inl, inr}
+use Rattle.std.proofs.Common.{◌≡◌, ◌⊎◌, true, List, [], ◌∷◌, ◌++◌, map, Option, None, Some, IsSome, IfSome, Ok, Err, refl, sym, ap, ap₂, ◌∙◌, subst, inl, inr}
 use Rattle.std.specs.List.{AllByRecursion}
 use Rattle.std.specs.Option.{is_some}
 use Rattle.std.proofs.lemmas.Bool.{false≢true}
 use Rattle.std.proofs.lemmas.List.{map-append}
 use Rattle.device.specs.declared.question.Question.{Question}
 use Rattle.device.specs.Answer.{Answer}
-use Rattle.device.specs.Program.{Program, Meaning, Exchange, Somewhere, Sized, after, result, asked, exchanges}
-use Rattle.device.specs.Run.{Ran, Along}
+use Rattle.device.specs.Program.{Meaning, Exchange, Sized, after, result, asked, exchanges}
+use Rattle.device.specs.Run.{Along}
 use Rattle.device.proofs.Runs.{Onward, ran-end}
 use Rattle.device.proofs.Exchanges.{questions-asked, ran-along, along-more}
 use Rattle.geometry.specs.Limits.{within}
 use Rattle.layers.specs.declared.fault.Place.{Place}
 use Rattle.layers.specs.declared.fault.StorageFault.{StorageFault}
-use Rattle.layers.specs.Publisher.{Publisher, Whole, anchor_of, right_block, Differs, NoTwin, Honest}
-use Rattle.layers.specs.Judged.{IsFor, WasRefused}
+use Rattle.layers.specs.Publisher.{Publisher, Whole, anchor_of, right_block, NoTwin, Honest}
 use Rattle.layers.proofs.Judging.{no_twin, wrong, same_block, some_of}
 use Rattle.calls.specs.Calls.{State, Reply, fresh}
 use Rattle.calls.specs.Mount.{Mounted, made, image_length, mount}
 use Rattle.calls.specs.Image.{image_reply, image_state, named}
-use Rattle.calls.specs.Law.{Event, Step, Used, all_exchanges, rules_ask, Agrees, IsToBlame, Kept, LawOfRuns, IsImage, HonestIsImage}
+use Rattle.calls.specs.Law.{Event, Step, Used, all_exchanges, rules_ask, Agrees, IsToBlame, LawOfRuns, IsImage, HonestIsImage}
 use Rattle.calls.proofs.Lift.{none-first, none-second}
 use Rattle.calls.proofs.Stores.{IsTold, AllRight}
 use Rattle.calls.proofs.Within.{Fits}

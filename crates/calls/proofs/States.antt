@@ -1,8 +1,7 @@
 -- The state after a call has a start within the image, if the state before it has.
-use Rattle.std.proofs.Common.{◌≡◌, ℕ, ◌+◌, ◌-◌, ◌≤◌, min, ◌||◌, not, ltb, ◌==◌, cond, List, [], Option, None, Some, IfSome, Result, Ok, Err, refl}
+use Rattle.std.proofs.Common.{◌≡◌, ℕ, ◌+◌, ◌-◌, ◌≤◌, min, ◌||◌, not, ltb, ◌==◌, cond, List, [], Option, None, Some, IfSome, Result, Ok, Err}
 use Rattle.volume.specs.declared.types.Start.{Start}
-use Rattle.volume.specs.declared.fault.VolumeFault.TheVariants.{Storage}
-use Rattle.volume.specs.Fetches.{Fetches, give, refuse, fetch, after, put, settled, by_image}
+use Rattle.volume.specs.Fetches.{Fetches, give, after, put, by_image}
 use Rattle.volume.specs.Start.{start_of, start}
 use Rattle.volume.specs.Use.{Extent}
 use Rattle.volume.specs.Paths.{open_path, list_path}
@@ -10,7 +9,7 @@ use Rattle.volume.proofs.Gives.{Gives, gives-after, gives-put, gives-cond, gives
 use Rattle.volume.proofs.Rules.{start-within}
 use Rattle.calls.specs.declared.refusal.MountRule.TheVariants.{Handle, Offset, Length, Held, NotBegun}
 use Rattle.calls.specs.declared.refusal.Refusal.{Refusal}
-use Rattle.calls.specs.declared.refusal.Refusal.TheVariants.{Mount, Volume, Path}
+use Rattle.calls.specs.declared.refusal.Refusal.TheVariants.{Volume, Path}
 use Rattle.calls.specs.Calls.{Call, begin, open_file, read, whole, list, close, Given, started, opened, count, all, listed, closed, State, Accepted, Rules, no, bytes_of, filled_to, begin_rules, open_rules, read_rules, whole_rules, list_rules, close_rules, call_rules, state_of}
 use Rattle.calls.proofs.Within.{Fits}
 

@@ -1,6 +1,6 @@
 -- One call of a mount: its reply is the image's, or a storage fault that names a block to blame.
-use Rattle.std.proofs.Common.{◌≡◌, ◌⊎◌, ℕ, ◌*◌, ◌≤◌, ◌<◌, true, List, [], ◌∷◌, length, replicate, Option, None, Some, IsSome, IfSome, Result, Ok, Err, refl, sym, ap, ◌∙◌, subst, inl, inr, mul-le-mul_right, arith}
-use Rattle.device.specs.Program.{Program, Meaning, Exchange, Somewhere, Sized, result, exchanges, bind, done}
+use Rattle.std.proofs.Common.{◌≡◌, ◌⊎◌, ◌≤◌, true, List, [], ◌∷◌, length, Option, None, Some, IsSome, IfSome, Result, Ok, Err, refl, sym, ap, ◌∙◌, subst, inl, inr, mul-le-mul_right, arith}
+use Rattle.device.specs.Program.{Program, Meaning, Exchange, Somewhere, Sized, result, exchanges}
 use Rattle.device.specs.Layer.{through}
 use Rattle.device.proofs.Exchanges.{exchanges-put, result-put}
 use Rattle.geometry.specs.Limits.{within}
@@ -10,13 +10,13 @@ use Rattle.layers.specs.declared.fault.StorageFault.{StorageFault}
 use Rattle.layers.specs.declared.fault.StorageFault.TheVariants.{Label, NoBlock, Refused, Mismatch}
 use Rattle.layers.specs.Anchor.{Anchor}
 use Rattle.layers.specs.Cache.{Table}
-use Rattle.layers.specs.Publisher.{Publisher, Whole, anchor_of, NoTwin, Differs}
+use Rattle.layers.specs.Publisher.{Publisher, Whole, NoTwin, Differs}
 use Rattle.layers.specs.Judged.{IsFor, WasRefused}
-use Rattle.volume.specs.Fetches.{Fetches, by_image, by_blocks}
+use Rattle.volume.specs.Fetches.{Fetches, by_image}
 use Rattle.volume.proofs.Clean.{Clean, clean-image}
 use Rattle.calls.specs.declared.refusal.Refusal.{Refusal}
 use Rattle.calls.specs.Refusal.{holds}
-use Rattle.calls.specs.Calls.{Call, State, Accepted, Reply, Given, call_rules, reply_of, state_of}
+use Rattle.calls.specs.Calls.{Call, State, Accepted, Reply, call_rules, reply_of, state_of}
 use Rattle.calls.specs.Mount.{Mounted, image_length, by_label, store, mount}
 use Rattle.calls.specs.Image.{image_reply, image_state, named, blamed, blamed_if}
 use Rattle.calls.specs.Law.{IsToBlame}

@@ -1,9 +1,9 @@
 -- The path check is a store, and so is the cache over any store.
-use Rattle.std.proofs.Common.{◌≡◌, ℕ, ◌+◌, ◌%◌, Bool, true, false, cond, leb, List, [], ◌∷◌, length, set, Option, None, Some, IfSome, Result, Ok, Err, refl, sym, ap, ap₂, subst, ◌∙◌}
+use Rattle.std.proofs.Common.{◌≡◌, ℕ, ◌+◌, ◌%◌, true, cond, leb, List, length, set, Option, None, Some, IfSome, Ok, Err, refl, sym, ap, subst, ◌∙◌}
 use Rattle.std.specs.List.{AllByRecursion}
 use Rattle.device.specs.declared.question.Question.{Question}
 use Rattle.device.specs.Answer.{Answer}
-use Rattle.device.specs.Program.{Program, done, ask, bind, Meaning, Exchange, Sized, after, result, asked, exchanges}
+use Rattle.device.specs.Program.{Program, done, bind, Meaning, Exchange, Sized, result, exchanges}
 use Rattle.device.specs.Layer.{through, stacked}
 use Rattle.device.proofs.Exchanges.{exchanges-put, result-put}
 use Rattle.layers.specs.declared.fault.StorageFault.{StorageFault}

@@ -1,24 +1,18 @@
 -- The six calls stay within the image, in any state whose start does.
-use Rattle.std.proofs.Common.{◌≡◌, ℕ, ◌+◌, ◌-◌, ◌≤◌, min, Bool, true, false, cond, ◌||◌, not, eqb, ltb, ◌==◌, List, [], Option, None, Some, IfSome, Result, Ok, Err, refl, sym, ap, ◌∙◌, subst, arith}
+use Rattle.std.proofs.Common.{ℕ, ◌+◌, ◌-◌, ◌≤◌, min, cond, ◌||◌, not, ltb, ◌==◌, List, [], Option, None, Some, IfSome, refl, arith}
 use Rattle.std.proofs.lemmas.Bool.{or_parts, ltb-false}
 use Rattle.volume.specs.declared.types.Start.{Start}
-use Rattle.volume.specs.declared.fault.VolumeFault.{VolumeFault}
-use Rattle.volume.specs.declared.fault.VolumeFault.TheVariants.{Storage}
-use Rattle.volume.specs.declared.fault.PathFault.{PathFault}
 use Rattle.volume.specs.Fault.{volume_holds, path_holds}
-use Rattle.volume.specs.Fetches.{Fetches, give, refuse, fetch, after, put, by_image}
+use Rattle.volume.specs.Fetches.{give, after, put}
 use Rattle.volume.specs.Start.{start}
-use Rattle.volume.specs.Header.{Header}
 use Rattle.volume.specs.Use.{Extent}
 use Rattle.volume.specs.Paths.{open_path, list_path}
 use Rattle.volume.proofs.Clean.{Clean, clean-after, clean-put, clean-cond}
 use Rattle.volume.proofs.Rules.{start-clean, open_path-clean, list_path-clean}
-use Rattle.calls.specs.declared.refusal.MountRule.{MountRule}
 use Rattle.calls.specs.declared.refusal.MountRule.TheVariants.{Handle, Offset, Length, Held, NotBegun}
-use Rattle.calls.specs.declared.refusal.Refusal.{Refusal}
-use Rattle.calls.specs.declared.refusal.Refusal.TheVariants.{Mount, Volume, Path}
+use Rattle.calls.specs.declared.refusal.Refusal.TheVariants.{Volume, Path}
 use Rattle.calls.specs.Refusal.{holds}
-use Rattle.calls.specs.Calls.{Call, begin, open_file, read, whole, list, close, Given, started, opened, count, all, listed, closed, State, Accepted, Rules, no, bytes_of, filled_to, begin_rules, open_rules, read_rules, whole_rules, list_rules, close_rules, call_rules}
+use Rattle.calls.specs.Calls.{Call, begin, open_file, read, whole, list, close, started, opened, count, all, listed, closed, State, Rules, no, bytes_of, filled_to, begin_rules, open_rules, read_rules, whole_rules, list_rules, close_rules, call_rules}
 
 -- the start that a state has lies within the image
 abbrev pub Fits : ℕ → State → Type 0
@@ -60,9 +54,9 @@ module _ (F : Type 0) (limit : ℕ) where
         clean-cond holds limit (ltb at.size (file.start + file.size)) (no Handle) (cond (ltb file.size f) (no Offset) go) (λ is. refl)
         (λ inside. clean-cond holds limit (ltb file.size f) (no Offset) go (λ is. refl)
         (λ reach.
-            let one = ltb-false at.size (file.start + file.size) inside in
-            let two = ltb-false file.size f reach in
-            (omega arith, (λ fault. refl), λ bytes. tt)))
+        let one = ltb-false at.size (file.start + file.size) inside in
+        let two = ltb-false file.size f reach in
+        (omega arith, (λ fault. refl), λ bytes. tt)))
 
     whole_clean : (file : Extent) (n : ℕ) → IsClean (whole_rules at s file n)
     unfolding whole_rules
@@ -71,8 +65,8 @@ module _ (F : Type 0) (limit : ℕ) where
         clean-cond holds limit (ltb at.size (file.start + file.size) || s.held == 0) (no Handle) (cond (not (n == file.size)) (no Length) go) (λ is. refl)
         (λ inside. clean-cond holds limit (not (n == file.size)) (no Length) go (λ is. refl)
         (λ same.
-            let one = ltb-false at.size (file.start + file.size) (or_parts (ltb at.size (file.start + file.size)) (s.held == 0) inside).0 in
-            (omega arith, (λ fault. refl), λ bytes. tt)))
+        let one = ltb-false at.size (file.start + file.size) (or_parts (ltb at.size (file.start + file.size)) (s.held == 0) inside).0 in
+        (omega arith, (λ fault. refl), λ bytes. tt)))
 
     close_clean : IsClean (close_rules s)
     unfolding close_rules

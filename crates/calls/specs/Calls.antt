@@ -1,12 +1,10 @@
 -- The six calls, as programs of fetches.
-use Rattle.std.specs.Prelude.{ℕ, ◌+◌, ◌-◌, ◌*◌, min, Bool, cond, ◌||◌, not, List, [], ◌++◌, length, replicate, Result, Ok, Err, Option, Some, None, ◌==◌, nat_lt}
+use Rattle.std.specs.Prelude.{ℕ, ◌+◌, ◌-◌, min, cond, ◌||◌, not, List, [], ◌++◌, length, replicate, Result, Ok, Err, Option, Some, None, ◌==◌, nat_lt}
 use Rattle.volume.specs.declared.types.Start.{Start}
 use Rattle.volume.specs.declared.types.Entry.{Entry}
-use Rattle.volume.specs.declared.fault.VolumeFault.{VolumeFault}
 use Rattle.volume.specs.declared.fault.VolumeFault.TheVariants.{Storage}
 use Rattle.volume.specs.Fetches.{Fetches, give, refuse, fetch, after, put}
 use Rattle.volume.specs.Start.{start}
-use Rattle.volume.specs.Header.{Header}
 use Rattle.volume.specs.Use.{Extent}
 use Rattle.volume.specs.Paths.{open_path, list_path}
 use Rattle.calls.specs.declared.refusal.MountRule.{MountRule}

@@ -1,5 +1,5 @@
 -- The publisher's image: a plain model that answers the calls by the same rules, from its bytes.
-use Rattle.std.specs.Prelude.{ℕ, Bool, cond, Result, Ok, Err, Option, Some, None}
+use Rattle.std.specs.Prelude.{Result, Ok, Err, Option, Some, None}
 use Rattle.layers.specs.declared.fault.Place.{Place}
 use Rattle.layers.specs.declared.fault.StorageFault.{StorageFault}
 use Rattle.layers.specs.declared.fault.StorageFault.TheVariants.{Label, NoBlock, Refused, Mismatch}

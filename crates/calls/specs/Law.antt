@@ -1,5 +1,5 @@
 -- The law of runs: what holds of any use of one mount over any device.
-use Rattle.std.specs.Prelude.{◌≡◌, true, ◌⊎◌, List, [], ◌∷◌, ◌++◌, map, Option, Some, None, IsSome, IfSome}
+use Rattle.std.specs.Prelude.{◌≡◌, true, ◌⊎◌, List, [], ◌∷◌, ◌++◌, map, Some, None, IsSome, IfSome}
 use Rattle.std.specs.List.{AllByRecursion}
 use Rattle.device.specs.declared.question.Question.{Question}
 use Rattle.device.specs.Program.{Meaning, Exchange, Somewhere, after, asked, exchanges, result}
@@ -7,7 +7,7 @@ use Rattle.device.specs.Run.{Ran, Along}
 use Rattle.geometry.specs.Limits.{within}
 use Rattle.layers.specs.declared.fault.Place.{Place}
 use Rattle.layers.specs.declared.fault.StorageFault.{StorageFault}
-use Rattle.layers.specs.Publisher.{Publisher, Whole, anchor_of, right_block, Differs, NoTwin, Honest}
+use Rattle.layers.specs.Publisher.{Publisher, Whole, anchor_of, Differs, NoTwin, Honest}
 use Rattle.layers.specs.Judged.{IsFor, WasRefused}
 use Rattle.calls.specs.Calls.{Call, State, Reply, fresh}
 use Rattle.calls.specs.Mount.{Mounted, made, mount}

@@ -1,6 +1,6 @@
 -- A mount: the volume's rules over a cache over the path check over any device. Each call is one program of questions to
 -- that device.
-use Rattle.std.specs.Prelude.{ℕ, ◌*◌, Result, Ok, Err, Option, Some, None}
+use Rattle.std.specs.Prelude.{ℕ, ◌*◌, Result, Err, Option, Some, None}
 use Rattle.device.specs.declared.question.Question.{Question}
 use Rattle.device.specs.Answer.{Answer}
 use Rattle.device.specs.Program.{Program, done, bind}

@@ -1,5 +1,5 @@
 -- The numbers of the mount's own rules, and the storage fault that a refusal is or holds.
-use Rattle.std.specs.Prelude.{ℕ, Option, Some, None}
+use Rattle.std.specs.Prelude.{ℕ, Option, None}
 use Rattle.volume.specs.Fault.{volume_holds, path_holds}
 use Rattle.calls.specs.declared.refusal.MountRule.{MountRule}
 use Rattle.calls.specs.declared.refusal.MountRule.TheVariants.{Label, Handle, Offset, Length, Held, NotBegun}

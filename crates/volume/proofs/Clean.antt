@@ -1,6 +1,6 @@
 -- Programs of fetches that stay within the image, and that hold a fault of the device exactly where a fetch is refused.
-use Rattle.std.proofs.Common.{◌≡◌, ℕ, ◌+◌, ◌≤◌, Bool, true, false, cond, List, [], ◌∷◌, Option, None, Some, Result, Ok, Err, refl, sym, ◌∙◌}
-use Rattle.volume.specs.Fetches.{Fetches, give, refuse, fetch, after, put, settled, by_image}
+use Rattle.std.proofs.Common.{◌≡◌, ℕ, ◌+◌, ◌≤◌, Bool, true, false, cond, List, Option, None, Some, Result, Ok, Err, refl, ◌∙◌}
+use Rattle.volume.specs.Fetches.{Fetches, give, refuse, fetch, after, put, by_image}
 
 abbrev pub Clean : {F E X : Type 0} → (E → Option F) → ℕ → Fetches F E X → Type 0
 Clean holds limit (give x) = Unit {0}

@@ -1,12 +1,12 @@
 -- The volume's rules stay within the image.
-use Rattle.std.proofs.Common.{◌≡◌, ℕ, zero, suc, ◌+◌, ◌-◌, ◌≤◌, min, Bool, true, false, cond, ◌&&◌, ◌||◌, not, eqb, leb, ltb, List, [], ◌∷◌, length, take, drop, Option, None, Some, Result, Ok, Err, refl, ap, sym, arith, ◌==◌}
+use Rattle.std.proofs.Common.{◌≡◌, ℕ, zero, suc, ◌+◌, ◌-◌, ◌≤◌, min, Bool, true, false, cond, ◌&&◌, ◌||◌, not, leb, ltb, List, [], ◌∷◌, length, take, drop, Option, None, Some, Result, Ok, Err, refl, ap, sym, arith, ◌==◌}
 use Rattle.std.specs.Str.{bytes_eq}
 use Rattle.std.proofs.lemmas.Bool.{or_parts, ltb-false}
 use Rattle.volume.specs.declared.types.Start.{Start}
 use Rattle.volume.specs.declared.types.Kind.{Kind}
 use Rattle.volume.specs.declared.types.Kind.TheVariants.{HardLink, Directory, File, SymbolicLink, BlockDevice, CharDevice, Socket, Pipe}
 use Rattle.volume.specs.declared.fault.VolumeRule.{VolumeRule}
-use Rattle.volume.specs.declared.fault.VolumeRule.TheVariants.{Text, Size, Sum, VolumeName, Range, Info, Data, Links, LinkedDirectory}
+use Rattle.volume.specs.declared.fault.VolumeRule.TheVariants.{Text, Size, Sum, VolumeName, Range, Info, Links, LinkedDirectory}
 use Rattle.volume.specs.declared.fault.VolumeFault.{VolumeFault}
 use Rattle.volume.specs.declared.fault.VolumeFault.TheVariants as volume
 use Rattle.volume.specs.declared.fault.PathRule.{PathRule}
@@ -20,7 +20,7 @@ use Rattle.volume.specs.Start.{magic, root_of, start_of, start}
 use Rattle.volume.specs.Header.{Header, named, header_of, header}
 use Rattle.volume.specs.Walk.{Sought, by_name, by_index, behind, is_it, is_dots, seek, find}
 use Rattle.volume.specs.Use.{Extent, broken, enter, file, follow}
-use Rattle.volume.specs.Paths.{Part, parts, first_bad, sound_parts, enter_all, file_at, open_path, list_path}
+use Rattle.volume.specs.Paths.{Part, parts, first_bad, enter_all, file_at, open_path, list_path}
 use Rattle.volume.proofs.Clean.{Clean, clean-after, clean-put, clean-cond}
 
 -- a result that holds no fault of the device
@@ -63,8 +63,8 @@ module _ (F : Type 0) (limit : ℕ) where
         clean-cond volume_holds limit (ltb at s.root || ltb s.size (at + 32)) (refuse (volume.Rule at Range))
         (fetch at (min (at + 144) s.size - at) (λ fault. volume.Storage at fault) (λ bytes. settled (header_of at bytes))) (λ is. refl)
         (λ is.
-            let low = ltb-false s.size (at + 32) (or_parts (ltb at s.root) (ltb s.size (at + 32)) is).1 in
-            (omega arith, (λ f. refl), λ bytes. quiet_named F at bytes (zero_at (drop 16 bytes)) limit))
+        let low = ltb-false s.size (at + 32) (or_parts (ltb at s.root) (ltb s.size (at + 32)) is).1 in
+        (omega arith, (λ f. refl), λ bytes. quiet_named F at bytes (zero_at (drop 16 bytes)) limit))
 
 -- an accepted choice
 ok_behind : {X E : Type 0} (b : Bool) (e : E) (y : Result X E) (x : X) → cond b (Err e) y ≡ Ok x → (b ≡ false) × (y ≡ Ok x)

@@ -1,8 +1,7 @@
 -- Programs of fetches: a fetch is a range of the volume's bytes. The rules of the volume are such programs; a device answers
 -- a fetch by its blocks, and the publisher's image by its bytes.
-use Rattle.std.specs.Prelude.{ℕ, suc, zero, ◌+◌, ◌-◌, ◌/◌, ◌%◌, Bool, cond, List, [], ◌++◌, take, drop, Result, Ok, Err, ◌==◌}
+use Rattle.std.specs.Prelude.{ℕ, suc, zero, ◌+◌, ◌-◌, ◌/◌, ◌%◌, cond, List, [], ◌++◌, take, drop, Result, Ok, Err, ◌==◌}
 use Rattle.device.specs.declared.question.Area.TheVariants as area
-use Rattle.device.specs.declared.question.Question.{Question}
 use Rattle.device.specs.Answer.{Answer}
 use Rattle.device.specs.Program.{Program, done, ask, bind}
 

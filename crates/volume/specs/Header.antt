@@ -1,5 +1,5 @@
 -- A header: the words next, info, size and checksum, then the name with its zero byte, padded to 16.
-use Rattle.std.specs.Prelude.{ℕ, suc, ◌+◌, ◌-◌, ◌*◌, ◌/◌, ◌%◌, min, Bool, true, false, cond, ◌&&◌, ◌||◌, not, List, [], ◌∷◌, length, take, drop, Result, Ok, Err, Option, Some, None, ◌==◌, nat_le, nat_lt}
+use Rattle.std.specs.Prelude.{ℕ, ◌+◌, ◌-◌, ◌/◌, ◌%◌, min, Bool, cond, ◌&&◌, ◌||◌, not, List, length, take, drop, Result, Ok, Err, Option, Some, None, ◌==◌, nat_le, nat_lt}
 use Rattle.std.specs.List.{list_all}
 use Rattle.volume.specs.declared.types.Start.{Start}
 use Rattle.volume.specs.declared.types.Kind.{Kind}

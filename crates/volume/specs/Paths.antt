@@ -1,5 +1,5 @@
 -- Paths: components parted by single slashes.
-use Rattle.std.specs.Prelude.{ℕ, zero, suc, ◌+◌, Bool, true, false, cond, ◌||◌, List, [], ◌∷◌, ◌++◌, length, Option, Some, None, Result, Ok, Err, ◌==◌}
+use Rattle.std.specs.Prelude.{ℕ, ◌+◌, Bool, false, cond, ◌||◌, List, [], ◌∷◌, ◌++◌, length, Option, Some, None, Result, Ok, Err, ◌==◌}
 use Rattle.volume.specs.declared.types.Start.{Start}
 use Rattle.volume.specs.declared.fault.PathRule.TheVariants.{Component}
 use Rattle.volume.specs.declared.fault.PathFault.{PathFault}

@@ -1,6 +1,6 @@
 -- The start of a volume: the text `-rom1fs-`, the full size S, a checksum, and the volume's name, behind which the first
 -- header stands.
-use Rattle.std.specs.Prelude.{ℕ, ◌+◌, min, cond, ◌&&◌, ◌||◌, not, List, [], ◌∷◌, take, drop, Result, Ok, Err, Option, Some, None, nat_le, nat_lt}
+use Rattle.std.specs.Prelude.{ℕ, ◌+◌, min, cond, ◌||◌, not, List, [], ◌∷◌, take, drop, Result, Ok, Err, Option, Some, None, nat_le, nat_lt}
 use Rattle.std.specs.Str.{bytes_eq}
 use Rattle.volume.specs.declared.types.Start.{Start}
 use Rattle.volume.specs.declared.fault.VolumeRule.TheVariants.{Text, Size, Sum, VolumeName}

@@ -1,11 +1,9 @@
 -- Headers in use: what their info may be, and links.
-use Rattle.std.specs.Prelude.{ℕ, zero, suc, ◌+◌, Bool, true, false, cond, ◌&&◌, ◌||◌, not, ◌==◌, nat_le, nat_lt}
+use Rattle.std.specs.Prelude.{ℕ, zero, suc, ◌+◌, Bool, true, cond, ◌&&◌, ◌||◌, not, ◌==◌, nat_lt}
 use Rattle.volume.specs.declared.types.Start.{Start}
-use Rattle.volume.specs.declared.types.Kind.{Kind}
-use Rattle.volume.specs.declared.types.Kind.TheVariants.{HardLink, Directory, File, SymbolicLink, BlockDevice, CharDevice, Socket, Pipe}
+use Rattle.volume.specs.declared.types.Kind.TheVariants.{HardLink, Directory, File}
 use Rattle.volume.specs.declared.fault.VolumeRule.{VolumeRule}
 use Rattle.volume.specs.declared.fault.VolumeRule.TheVariants.{Info, Data, Links, LinkedDirectory}
-use Rattle.volume.specs.declared.fault.VolumeFault.{VolumeFault}
 use Rattle.volume.specs.declared.fault.VolumeFault.TheVariants as volume
 use Rattle.volume.specs.declared.fault.PathRule.TheVariants.{NotDirectory, NotFile}
 use Rattle.volume.specs.declared.fault.PathFault.{PathFault}

@@ -2,7 +2,6 @@
 use Rattle.std.specs.Prelude.{ℕ, zero, suc, Bool, true, false, cond, ◌||◌, List, [], ◌∷◌, ◌==◌}
 use Rattle.std.specs.Str.{bytes_eq}
 use Rattle.volume.specs.declared.types.Start.{Start}
-use Rattle.volume.specs.declared.fault.VolumeFault.{VolumeFault}
 use Rattle.volume.specs.declared.fault.PathRule.TheVariants.{Missing}
 use Rattle.volume.specs.declared.fault.PathFault.{PathFault}
 use Rattle.volume.specs.declared.fault.PathFault.TheVariants.{Rule, Volume}

@@ -1,0 +1,4 @@
+pub mod Reading
+pub mod Cases
+pub mod SmallCard
+pub mod MixedCard
