@@ -52,3 +52,23 @@ filled-is n answer (Err refusal) buf is zeros = zeros ∙ ap (filled n) is
 pub answered-err : {R : Type 0} (r : Result (Unit {0}) R) (refusal : R) (buf : List ℕ) → IsErr r × IsErrAnd r (λ e. e ≡ refusal) → answered r buf ≡ Err refusal
 answered-err (Ok d) refusal buf both = absurd (false≢true both.0)
 answered-err (Err e) refusal buf both = ap (λ x. Err x) both.1
+
+-- a value that is only put into another
+pub ran-put : {S R A B : Type 0} (meaning : S → Meaning R) (moves : S → Question → S → Type 0) (f : A → B) (p : Program R A) (s : S) (b : B) (t : S) → Ran meaning moves s (bind p (λ a. done (f a))) b t
+    → (a : A) × Ran meaning moves s p a t × (b ≡ f a)
+ran-put meaning moves f (done a) s b t ran = (a, (refl, ran.1), ran.0)
+ran-put meaning moves f (ask q next) s b t (u, moved, ran) =
+    let rest = ran-put meaning moves f (next (meaning s [] q)) u b t ran in
+    (rest.0, (u, moved, rest.1), rest.2)
+
+pub ran-then : {S R A B : Type 0} (meaning : S → Meaning R) (moves : S → Question → S → Type 0) (f : A → B) (p : Program R A) (s : S) (a : A) (t : S) → Ran meaning moves s p a t
+    → Ran meaning moves s (bind p (λ x. done (f x))) (f a) t
+ran-then meaning moves f p s a t ran = ran-bind meaning moves p (λ x. done (f x)) s a t (f a) t ran (refl, refl)
+
+-- a run of one program and then another is two runs
+pub ran-split : {S R A B : Type 0} (meaning : S → Meaning R) (moves : S → Question → S → Type 0) (p : Program R A) (then : A → Program R B) (s : S) (b : B) (t : S) → Ran meaning moves s (bind p then) b t
+    → (a : A) × (u : S) × Ran meaning moves s p a u × Ran meaning moves u (then a) b t
+ran-split meaning moves (done a) then s b t ran = (a, s, (refl, refl), ran)
+ran-split meaning moves (ask q next) then s b t (v, moved, ran) =
+    let rest = ran-split meaning moves (next (meaning s [] q)) then v b t ran in
+    (rest.0, rest.1, (v, moved, rest.2), rest.3)
