@@ -1,5 +1,5 @@
 -- Worked cases: V is a volume of one block of 512 bytes, with a file `a` of the three bytes `egg`.
-use Rattle.std.specs.Prelude.{◌≡◌, ℕ, zero, suc, ◌+◌, ◌-◌, ◌*◌, ◌%◌, List, [], ◌∷◌, ◌++◌, length, replicate, sum, codes, Result, Ok, Err, Some, None}
+use Rattle.std.specs.Prelude.{◌≡◌, ℕ, zero, suc, ◌+◌, ◌-◌, ◌*◌, ◌%◌, List, [], ◌∷◌, ◌++◌, length, replicate, sum, codes, Result, Ok, Err, Some, None, false}
 use Rattle.device.specs.declared.question.Area.TheVariants as area
 use Rattle.device.specs.declared.question.Question.{Question}
 use Rattle.device.specs.Program.{Meaning, asked, result}
@@ -7,6 +7,7 @@ use Rattle.tree.specs.Laws as trees
 use Rattle.tree.specs.Tree.{salted}
 use Rattle.layers.specs.Path.{given}
 use Rattle.layers.specs.Publisher.{Publisher, Twin, anchor_of}
+use Rattle.volume.specs.declared.types.Kind.TheVariants.{File}
 use Rattle.volume.specs.declared.fault.VolumeRule.{VolumeRule}
 use Rattle.volume.specs.declared.fault.VolumeRule.TheVariants as volume_rule
 use Rattle.volume.specs.declared.fault.VolumeFault.TheVariants as volume
@@ -17,7 +18,7 @@ use Rattle.volume.specs.Use.{Extent}
 use Rattle.calls.specs.declared.refusal.MountRule.TheVariants as mount_rule
 use Rattle.calls.specs.declared.refusal.Refusal.{Refusal}
 use Rattle.calls.specs.declared.refusal.Refusal.TheVariants as refusal
-use Rattle.calls.specs.Calls.{begin, open_file, read, whole, list, close, Given, started, opened, count, all, closed, State, fresh}
+use Rattle.calls.specs.Calls.{begin, open_file, read, whole, list, close, Given, started, opened, count, all, listed, closed, State, fresh}
 use Rattle.calls.specs.Mount.{Mounted, made, mount}
 use Rattle.cases.specs.Reading.{image_of, reply, then, begun}
 
@@ -43,6 +44,10 @@ header_named name next info size = next ∷ info ∷ size ∷ checksum (next + i
 
 abbrev pub header_words : ℕ → ℕ → ℕ → List ℕ
 header_words = header_named 0x61000000
+
+-- the header of an empty file, with a name of these words
+abbrev pub header_long : List ℕ → List ℕ
+header_long name = 2 ∷ 0 ∷ 0 ∷ checksum (2 + sum name) ∷ name
 
 -- a volume in one block: these words from its name on, and behind its end the last ones
 abbrev pub volume_before : List ℕ → List ℕ → List ℕ
@@ -129,12 +134,15 @@ pub record Cases : Type 0 where
   pub endless_name : starting (named_volume (replicate 32 0x61616161 ++ replicate 12 0)) ≡ Err (refusal.Volume (volume.Rule 16 volume_rule.VolumeName))
   pub longest_name : starting (named_volume (replicate 31 0x61616161 ++ 0x61616100 ∷ replicate 8 0)) ≡ Ok (started (record { size = 176; root = 144 }))
   pub no_header : starting (volume_of (replicate 4 0)) ≡ Err (refusal.Volume (volume.Rule 16 volume_rule.VolumeName))
-  -- names with a slash, with bytes outside 20 to 7e hex and at its ends, and without a byte; a header with a wrong sum
+  -- names with a slash, with bytes outside 20 to 7e hex and at its ends, without a byte, of 128 and of 127 bytes; a header with
+  -- a wrong sum
   pub slash : opening (volume_of (header_named 0x2f000000 2 0 0)) (codes "a") ≡ breaks 32 volume_rule.Name
   pub below_20 : opening (volume_of (header_named 0x1f000000 2 0 0)) (codes "a") ≡ breaks 32 volume_rule.Name
   pub above_7e : opening (volume_of (header_named 0x617f0000 2 0 0)) (codes "a") ≡ breaks 32 volume_rule.Name
   pub at_the_ends : opening (volume_of (header_named 0x207e0000 2 0 0)) (codes " ~") ≡ Ok (opened (record { start = 64; size = 0 }))
   pub no_name : opening (volume_of (header_named 0 2 0 0)) (codes "a") ≡ breaks 32 volume_rule.Name
+  pub endless : opening (volume_of (header_long (replicate 32 0x61616161) ++ 0 ∷ 0 ∷ 0 ∷ 0 ∷ [])) (codes "a") ≡ breaks 32 volume_rule.Name
+  pub longest : listing (volume_of (header_long (replicate 31 0x61616161 ++ 0x61616100 ∷ []))) [] 0 ≡ Ok (listed (record { kind = File; executable = false; size = 0 }))
   pub header_sum : opening (volume_of (2 ∷ 0 ∷ 0 ∷ 0 ∷ 0x61000000 ∷ 0 ∷ 0 ∷ 0 ∷ [])) (codes "a") ≡ breaks 32 volume_rule.HeaderSum
   -- eight links in a chain are followed, and a ninth is refused where it stands
   pub eight_links : (reply (chain 8) (begun (chain 8)) (open_file (codes "a"))).answer ≡ Ok (opened (record { start = 320; size = 0 }))
