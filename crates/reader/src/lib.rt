@@ -1,0 +1,4 @@
+// The volume's rules over any device.
+#![tactic(auto)]
+
+mod fetch;
