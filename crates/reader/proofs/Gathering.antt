@@ -224,7 +224,7 @@ module _ {S R : Type 0} (meaning : S → Meaning R) (moves : S → Question → 
           (subst (λ k. Ran meaning moves now (gather d k (at / d) (at % d) n) (prefixed piece answer) end) (sym fuel)
           (gather-goes (going.0 - 1) (at / d) (at % d) n (λ e. absurd (omega arith)) now piece then answer end (rest_of (Ok piece) part) (behind answer end ran)))),
     )
-        where
+      where
         low : 0 < size
         low = omega (arith, mod_below at d some)
 

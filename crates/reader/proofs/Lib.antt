@@ -1,1 +1,4 @@
 pub mod Gathering
+pub mod Sums
+pub mod Running
+pub mod Headers

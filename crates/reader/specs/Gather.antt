@@ -3,6 +3,9 @@ use Rattle.std.specs.Prelude.{ℕ, zero, suc, ◌-◌, min, cond, List, [], ◌+
 use Rattle.device.specs.declared.question.Area.TheVariants.{Data}
 use Rattle.device.specs.Answer.{Answer}
 use Rattle.device.specs.Program.{Program, done, ask, bind}
+use Rattle.volume.specs.declared.fault.VolumeFault.{VolumeFault}
+use Rattle.volume.specs.declared.fault.VolumeFault.TheVariants.{Storage}
+use Rattle.volume.specs.Fetches.{Fetches, give, fetch}
 
 -- n bytes of an answer's bytes, from byte `skip` on
 abbrev pub cut : {F : Type 0} → ℕ → ℕ → Answer F → Answer F
@@ -29,3 +32,7 @@ gather d zero b skip n = done (Ok [])
 gather d (suc fuel) b skip n =
     cond (n == 0) (done (Ok []))
     (bind (part_of d b skip (min n (d - skip))) (with_part (λ piece. bind (gather d fuel (suc b) 0 (n - min n (d - skip))) (λ more. done (prefixed piece more)))))
+
+-- n bytes from an offset, where a fault has that place
+abbrev pub bytes_at : {F : Type 0} → ℕ → ℕ → Fetches F (VolumeFault F) (List ℕ)
+bytes_at from n = fetch from n (λ fault. Storage from fault) (λ bytes. give bytes)

@@ -1,1 +1,2 @@
 pub mod Gather
+pub mod Header

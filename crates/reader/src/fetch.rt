@@ -2,10 +2,11 @@
 ghost use Rattle.std.specs.Prelude.{◌≡◌, ◌<◌, ◌≤◌, ◌+◌, OnErr, length, replicate};
 ghost use Rattle.device.specs.Answer.{answered};
 ghost use Rattle.device.specs.Run.{Ran};
-ghost use Rattle.reader.specs.Gather.{part_of};
-ghost use Rattle.volume.specs.Fetches.{fetch_blocks};
+ghost use Rattle.reader.specs.Gather.{bytes_at, part_of};
+ghost use Rattle.volume.specs.Fetches.{by_blocks, fetch_blocks};
 
 use device::{Area, Device};
+use volume::VolumeFault;
 
 // The longest block.
 const BLOCK: usize = 4096;
@@ -60,4 +61,23 @@ pub(crate) fn fetch<D: Device>(
         done += size;
     }
     Ok(())
+}
+
+// The same, with the fault put with its place.
+pub(crate) fn fetch_at<D: Device>(
+    store: &mut D,
+    data_block: usize,
+    from: u32,
+    buf: &mut [u8],
+) -> Result<(), VolumeFault<D::Refusal>>
+    requires some { 0 < data_block }
+    requires long { data_block ≤ 4096 }
+    requires room { from + length buf.old ≤ 4294967296 }
+    ensures run { Ran D.meaning D.moves store.old (by_blocks data_block (bytes_at from (length buf.old))) (answered result buf.new) store.new }
+    ensures zeros { OnErr result (buf.new ≡ replicate (length buf.old) 0) }
+{
+    match fetch(store, data_block, from, buf) {
+        Ok(()) => Ok(()),
+        Err(fault) => Err(VolumeFault::from((fault, from))),
+    }
 }

@@ -2,3 +2,6 @@
 #![tactic(auto)]
 
 mod fetch;
+mod header;
+mod start;
+mod words;
