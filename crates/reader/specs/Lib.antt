@@ -1,2 +1,3 @@
 pub mod Gather
 pub mod Header
+pub mod Sought

@@ -3,5 +3,8 @@
 
 mod fetch;
 mod header;
+mod reading;
+mod sought;
 mod start;
+mod walk;
 mod words;
