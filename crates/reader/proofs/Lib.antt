@@ -2,3 +2,4 @@ pub mod Gathering
 pub mod Sums
 pub mod Running
 pub mod Headers
+pub mod Seeking
