@@ -3,3 +3,4 @@ pub mod Sums
 pub mod Running
 pub mod Headers
 pub mod Seeking
+pub mod Following

@@ -4,7 +4,7 @@ use Rattle.std.specs.Result.{IsErr, IsErrAnd}
 use Rattle.std.proofs.lemmas.Bool.{false≢true}
 use Rattle.device.specs.declared.question.Question.{Question}
 use Rattle.device.specs.Answer.{Answer}
-use Rattle.device.specs.Program.{Program, done, bind, Meaning}
+use Rattle.device.specs.Program.{Program, done, Meaning}
 use Rattle.device.specs.Run.{Ran}
 use Rattle.device.proofs.Runs.{ran-bind, ran-split}
 use Rattle.volume.specs.declared.fault.VolumeFault.{VolumeFault}

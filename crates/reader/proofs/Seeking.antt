@@ -1,11 +1,10 @@
 -- Going along a list, header by header.
-use Rattle.std.proofs.Common.{◌≡◌, ◌⊎◌, ℕ, zero, suc, ◌+◌, ◌-◌, ◌≤◌, ◌<◌, Bool, true, false, cond, eqb, List, Result, Ok, Err, refl, sym, subst, inl, inr, arith}
+use Rattle.std.proofs.Common.{◌≡◌, ◌⊎◌, ℕ, zero, suc, ◌+◌, ◌-◌, ◌≤◌, ◌<◌, true, false, cond, Result, Ok, Err, refl, sym, subst, inl, inr, arith}
 use Rattle.std.proofs.lemmas.Bool.{eq-eqb, ne_eqb}
 use Rattle.device.specs.declared.question.Question.{Question}
 use Rattle.device.specs.Program.{Meaning}
 use Rattle.device.specs.Run.{Ran}
 use Rattle.volume.specs.declared.types.Start.{Start}
-use Rattle.volume.specs.declared.fault.VolumeFault.{VolumeFault}
 use Rattle.volume.specs.declared.fault.PathRule.TheVariants.{Missing}
 use Rattle.volume.specs.declared.fault.PathFault.{PathFault}
 use Rattle.volume.specs.declared.fault.PathFault.TheVariants.{Rule, Volume}
@@ -95,7 +94,7 @@ module _ {S F : Type 0} (meaning : S → Meaning F) (moves : S → Question → 
           more,
           room,
           λ r end rest. on r end (step_on (seeking.0 - 1) sought at at_some now h then r end ran
-          (subst (λ b. Ran meaning moves then (by_blocks d (cond b dots (cond (is_it sought h.name) (give h) other))) r end) (sym is) rest)),
+              (subst (λ b. Ran meaning moves then (by_blocks d (cond b dots (cond (is_it sought h.name) (give h) other))) r end) (sym is) rest)),
         )
 
         pub seeking-next : is_dots h.name ≡ false → is_it sought h.name ≡ false → (later : Sought) → later ≡ behind sought → Seeking first wanted from then later h.next
@@ -104,6 +103,6 @@ module _ {S F : Type 0} (meaning : S → Meaning F) (moves : S → Question → 
           more,
           room,
           λ r end rest. on r end (step_on (seeking.0 - 1) sought at at_some now h then r end ran
-          (subst (λ b. Ran meaning moves then (by_blocks d (cond b dots (cond (is_it sought h.name) (give h) other))) r end) (sym plain)
-          (subst (λ b. Ran meaning moves then (by_blocks d (cond b (give h) other)) r end) (sym not_it) rest))),
+              (subst (λ b. Ran meaning moves then (by_blocks d (cond b dots (cond (is_it sought h.name) (give h) other))) r end) (sym plain)
+              (subst (λ b. Ran meaning moves then (by_blocks d (cond b (give h) other)) r end) (sym not_it) rest))),
         )

@@ -1,5 +1,5 @@
 -- The sum of words, one more at the end.
-use Rattle.std.proofs.Common.{◌≡◌, ℕ, zero, suc, ◌+◌, ◌*◌, ◌%◌, List, refl, sym, ap, ◌∙◌, arith, add-one}
+use Rattle.std.proofs.Common.{◌≡◌, ℕ, zero, suc, ◌+◌, ◌*◌, ◌%◌, List, sym, ap, arith, add-one}
 use Rattle.volume.specs.Words.{word, words_sum}
 
 sum_last : (bytes : List ℕ) (at n : ℕ) → words_sum bytes at (suc n) ≡ words_sum bytes at n + word bytes (at + n * 4)

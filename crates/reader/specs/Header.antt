@@ -1,5 +1,5 @@
 -- A header that was read, as the rules take it.
-use Rattle.std.specs.Prelude.{ℕ, List, take, Result, Ok, Err}
+use Rattle.std.specs.Prelude.{take, Result, Ok, Err}
 use Rattle.volume.specs.Header as rule
 use Rattle.reader.specs.declared.header.Header.{Header}
 

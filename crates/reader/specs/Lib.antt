@@ -1,3 +1,4 @@
 pub mod Gather
 pub mod Header
 pub mod Sought
+pub mod File

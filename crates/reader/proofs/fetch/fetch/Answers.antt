@@ -1,10 +1,9 @@
-use Rattle.std.proofs.Common.{◌≡◌, ℕ, ◌+◌, ◌-◌, ◌*◌, ◌/◌, ◌%◌, ◌<◌, ◌≤◌, min, length, take, drop, List, [], ◌++◌, Ok, Err, sym, ap, ap₂, ◌∙◌, subst, refl, arith}
+use Rattle.std.proofs.Common.{◌≡◌, ℕ, ◌+◌, ◌-◌, ◌/◌, ◌%◌, ◌≤◌, min, length, take, drop, List, [], ◌++◌, Ok, Err, sym, ap, ◌∙◌, subst, arith}
 use Rattle.std.proofs.lemmas.List.{length-take, length-drop, length-append, take_all, take-append-le, append_assoc, append-nil}
 use borrow.Rule.Slice.PartMut.{put_mid}
-use Rattle.device.specs.Answer.{Answer, answered}
 use Rattle.device.specs.Run.{Ran}
 use Rattle.volume.specs.Fetches.{fetch_blocks}
-use Rattle.reader.specs.Gather.{part_of, prefixed, gather}
+use Rattle.reader.specs.Gather.{gather}
 use Rattle.reader.proofs.Gathering.{Going, fetched, going-ends, going-goes, gather-none}
 use Rattle.reader.proofs.fetch.fetch.Goals as goal
 

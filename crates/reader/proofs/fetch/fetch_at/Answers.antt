@@ -1,4 +1,4 @@
-use Rattle.std.proofs.Common.{List, Ok, Err, refl, sym, ap, subst}
+use Rattle.std.proofs.Common.{Ok, Err, refl, sym, subst}
 use Rattle.device.specs.Run.{Ran}
 use Rattle.volume.specs.declared.fault.VolumeFault.TheVariants.{Storage}
 use Rattle.volume.specs.Fetches.{give, by_blocks}

@@ -1,4 +1,4 @@
-use Rattle.std.proofs.Common.{Err, sym, subst}
+use Rattle.std.proofs.Common.{sym, subst}
 use Rattle.device.specs.Run.{Ran}
 use Rattle.volume.specs.Fetches.{by_blocks}
 use Rattle.volume.specs.Start.{start_of, start}

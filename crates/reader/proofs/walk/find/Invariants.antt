@@ -1,4 +1,4 @@
-use Rattle.std.proofs.Common.{ℕ, ◌+◌, ◌-◌, cond, ◌==◌}
+use Rattle.std.proofs.Common.{◌+◌, ◌-◌, cond, ◌==◌}
 use Rattle.reader.specs.Sought.{sought_value}
 use Rattle.reader.proofs.Seeking.{Seeking}
 use Rattle.reader.proofs.walk.find.Given as goal
