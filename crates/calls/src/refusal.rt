@@ -1,7 +1,8 @@
 // Why a call was refused. `F` is the fault of the path check.
 ghost use Rattle.std.specs.Prelude.{◌≡◌};
-ghost use Rattle.calls.specs.Refusal.{mount_number};
+ghost use Rattle.calls.specs.Refusal.{mount_number, places_of, refusal_number, volume_fault_number, volume_fault_places, within_path};
 
+use layers::{Place, StorageFault};
 use volume::{PathFault, VolumeFault};
 
 // The rules of the mount itself.
@@ -34,4 +35,74 @@ pub enum Refusal<F> {
     Mount(MountRule),
     Volume(VolumeFault<F>),
     Path(PathFault<F>),
+}
+
+// The places of a refusal, one within the other: a component of the path, an offset of the volume, and a block of the tree
+// or the data.
+#[derive(Clone, Copy, PartialEq, Eq, Debug, Drop)]
+pub struct Places {
+    pub path: Option<usize>,
+    pub volume: Option<u32>,
+    pub storage: Option<Place>,
+}
+
+fn volume_fault_number<R>(fault: &VolumeFault<StorageFault<R>>) -> u8
+    ensures { result ≡ volume_fault_number fault.now }
+{
+    match fault {
+        VolumeFault::Rule(_, rule) => rule.number(),
+        VolumeFault::Storage(_, below) => below.number(),
+    }
+}
+
+// The offset of a fault of the volume, and the block that the fault below names.
+fn volume_fault_places<R>(path: Option<usize>, fault: &VolumeFault<StorageFault<R>>) -> Places
+    ensures { result ≡ within_path path (volume_fault_places fault.now) }
+{
+    match fault {
+        VolumeFault::Rule(at, _) => Places {
+            path,
+            volume: Some(*at),
+            storage: None,
+        },
+        VolumeFault::Storage(at, below) => Places {
+            path,
+            volume: Some(*at),
+            storage: below.place(),
+        },
+    }
+}
+
+impl<R> Refusal<StorageFault<R>> {
+    // The number of the rule that is broken, or of the storage fault at the bottom.
+    pub fn number(&self) -> u8
+        ensures { result ≡ refusal_number self.now }
+    {
+        match self {
+            Refusal::Mount(rule) => rule.number(),
+            Refusal::Volume(fault) => volume_fault_number(fault),
+            Refusal::Path(PathFault::Rule(_, rule)) => rule.number(),
+            Refusal::Path(PathFault::Volume(_, fault)) => volume_fault_number(fault),
+        }
+    }
+
+    // Its places.
+    pub fn places(&self) -> Places
+        ensures { result ≡ places_of self.now }
+    {
+        match self {
+            Refusal::Mount(_) => Places {
+                path: None,
+                volume: None,
+                storage: None,
+            },
+            Refusal::Volume(fault) => volume_fault_places(None, fault),
+            Refusal::Path(PathFault::Rule(at, _)) => Places {
+                path: Some(*at),
+                volume: None,
+                storage: None,
+            },
+            Refusal::Path(PathFault::Volume(at, fault)) => volume_fault_places(Some(*at), fault),
+        }
+    }
 }
