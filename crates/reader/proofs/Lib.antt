@@ -1,6 +1,9 @@
 pub mod Gathering
+pub mod Parting
 pub mod Sums
 pub mod Running
 pub mod Headers
 pub mod Seeking
 pub mod Following
+pub mod Entering
+pub mod Pathing

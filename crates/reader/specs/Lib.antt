@@ -2,3 +2,4 @@ pub mod Gather
 pub mod Header
 pub mod Sought
 pub mod File
+pub mod Parts
