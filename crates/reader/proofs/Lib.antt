@@ -7,3 +7,5 @@ pub mod Seeking
 pub mod Following
 pub mod Entering
 pub mod Pathing
+pub mod CallRuns
+pub mod Fronts

@@ -3,3 +3,4 @@ pub mod Header
 pub mod Sought
 pub mod File
 pub mod Parts
+pub mod Calls

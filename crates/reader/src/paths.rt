@@ -105,5 +105,12 @@ pub(crate) fn list_path<D: Device>(
         return Err(PathFault::Rule(at, PathRule::Component));
     }
     let list = enter_all(store, data_block, start, path)?;
-    find(store, data_block, start, path.len(), Sought::Index(index), list)
+    find(
+        store,
+        data_block,
+        start,
+        path.len(),
+        Sought::Index(index),
+        list,
+    )
 }
