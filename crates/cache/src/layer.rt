@@ -32,6 +32,13 @@ impl<D: Device> Cache<D> {
         self.below
     }
 
+    // The device below.
+    pub fn below(&self) -> &D
+        ensures { result.now ≡ below_of self.now }
+    {
+        &self.below
+    }
+
     // One question, from a row or from below.
     fn answer(&mut self, area: Area, block: u32, buf: &mut [u8]) -> Result<(), D::Refusal>
         ensures run { Ran D.meaning D.moves (below_of self.old) (cache_layer (table self.old) (question area block buf.old)) (answered result buf.new, table self.new) (below_of self.new) }

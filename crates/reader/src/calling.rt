@@ -1,5 +1,5 @@
 // The six calls over a store, which gives the blocks of the volume's image.
-ghost use Rattle.std.specs.Prelude.{◌≡◌, ◌<◌, ◌+◌, [], OnErr, OnOk, IfErr, is_ok, nat_lt, length, replicate};
+ghost use Rattle.std.specs.Prelude.{◌≡◌, ◌<◌, ◌+◌, ◌-◌, cond, [], OnErr, OnOk, IfErr, is_ok, nat_lt, length, replicate};
 ghost use Rattle.geometry.specs.Of.{shape_of};
 ghost use Rattle.volume.specs.Fetches.{settled};
 ghost use Rattle.calls.specs.Calls.{all, call_rules, closed, count, fresh, listed, opened, started};
@@ -61,7 +61,7 @@ impl State {
     ) -> Result<Handle, Refusal<D::Refusal>>
         ensures run { CallRan D.meaning D.moves (shape_of geometry.now) (state_of self.old) (calls_of.open_file path.now) store.old (outcome (λ handle. opened (extent_of handle)) [] (state_of self.new) result) store.new }
         ensures kept { OnErr result (self.new ≡ self.old) }
-        ensures held { OnOk result (self.new.held ≡ self.old.held + 1) }
+        ensures held { self.new.held ≡ cond (is_ok result) (self.old.held + 1) self.old.held }
     {
         let Some(start) = self.begun else {
             return Err(Refusal::Mount(MountRule::NotBegun));
@@ -144,7 +144,8 @@ impl State {
         ensures zeros { OnErr result (buf.new ≡ replicate (length buf.old) 0) }
         ensures kept { OnErr result (self.new ≡ self.old) }
         ensures back { IfErr result (λ e. e.0 ≡ handle) }
-        ensures held { OnOk result (self.new.held + 1 ≡ self.old.held) }
+        ensures held { self.new.held ≡ cond (is_ok result) (self.old.held - 1) self.old.held }
+        ensures some { OnOk result (0 < self.old.held) }
     {
         match self.fill(store, geometry, &handle, buf) {
             Ok(()) => {
@@ -190,7 +191,7 @@ impl State {
         ensures kept { OnErr result (self.new ≡ self.old) }
         ensures back { IfErr result (λ e. e.0 ≡ handle) }
         ensures closes { is_ok result ≡ nat_lt 0 self.old.held }
-        ensures held { OnOk result (self.new.held + 1 ≡ self.old.held) }
+        ensures held { self.new.held ≡ self.old.held - 1 }
     {
         let Some(_start) = self.begun else {
             return Err((handle, Refusal::Mount(MountRule::NotBegun)));

@@ -1,9 +1,10 @@
 // The path check as a device.
-ghost use Rattle.std.specs.Prelude.{◌≡◌, [], OnErr, length, replicate};
+ghost use Rattle.std.specs.Prelude.{◌≡◌, [], OnErr, length, option_map, replicate};
 ghost use Rattle.device.specs.Answer.{answered, filled, question, returned};
 ghost use Rattle.device.specs.Layer.{layered, Through};
 ghost use Rattle.device.specs.Run.{Ran};
 ghost use Rattle.device.proofs.Layers.{layered-sized, through-onward};
+ghost use Rattle.geometry.specs.Of.{shape_of};
 ghost use Rattle.layers.specs.Laws.{AnswerJudged, PathAccepted};
 ghost use Rattle.layers.specs.Verity.{verity as verity_of, verity_layer};
 ghost use Rattle.layers.proofs.Sizes.{verity_layer-fits};
@@ -14,7 +15,7 @@ use crate::anchor::Anchored;
 use crate::verity::Verity;
 use device::{Area, Device};
 use digest::Digest;
-use geometry::Label;
+use geometry::{Geometry, Label};
 use layers::StorageFault;
 
 impl<H: Digest + Drop, D: Device> Verity<H, D> {
@@ -38,6 +39,16 @@ impl<H: Digest + Drop, D: Device> Verity<H, D> {
 }
 
 impl<H: Digest, D: Device> Verity<H, D> {
+    // The geometry that the label tells, unless it was refused.
+    pub fn geometry(&self) -> Option<Geometry>
+        ensures { option_map shape_of result ≡ option_map (λ anchor. anchor.shape) (label_of self.now) }
+    {
+        match &self.anchor {
+            Some(anchor) => Some(anchor.geometry),
+            None => None,
+        }
+    }
+
     // The check of one question.
     fn answer(
         &mut self,

@@ -1,0 +1,30 @@
+use Rattle.std.proofs.Common.{◌≡◌, [], length, option_map, refl, sym, ap, ◌∙◌}
+use Rattle.geometry.specs.Of.{shape_of}
+use Rattle.verity.specs.Layer as verity
+use Rattle.cache.specs.Layer as cache
+use Rattle.calls.specs.Calls.{read, count}
+use Rattle.reader.specs.Calls.{extent_of, state_of, outcome, refused}
+use Rattle.reader.proofs.Fronts.{on-err}
+use Rattle.mount.proofs.Stepping.{always-err, called-none, called-some, label-stays, not-none, refused-err}
+use Rattle.mount.proofs.mount.Mount.read.Goals as goal
+
+pub invariant_of-self : goal.invariant_of-self
+invariant_of-self g c =
+    let m = c.args.self.now in
+    record {
+      none = not-none (shape_of c.in-Some.geometry) (verity.label_of (cache.below_of m.store)) (verity.label_of (cache.below_of c.read.new.store)) (m.state.held ≡ 0) (sym (ap (option_map shape_of) c.in-Some.is) ∙ c.geometry.ensures)
+          (label-stays g.D.Device.meaning g.D.Device.moves g.met.D.Device.onward verity.label_of verity.below_of cache.table cache.below_of (shape_of c.in-Some.geometry) (state_of m.state) (read (extent_of c.args.handle.now) c.args.f (length c.args.buf.now)) m.store (outcome count (c.read.new.buf) (state_of m.state) c.read.result) c.read.new.store c.read.ensures.run);
+    }
+
+pub returns-in-Some-clause-step : goal.returns-in-Some-clause-step
+returns-in-Some-clause-step g c =
+    let a = c.args in
+    let m = a.self.now in
+    called-some g.D.Device.meaning g.D.Device.moves g.met.D.Device.onward verity.label_of verity.below_of cache.table cache.below_of m.store (state_of m.state) (read (extent_of a.handle.now) a.f (length a.buf.now)) (shape_of c.in-Some.geometry) count (c.read.new.buf) c.read.result c.read.new.store (state_of m.state)
+    (sym (ap (option_map shape_of) c.in-Some.is) ∙ c.geometry.ensures) c.read.ensures.zeros (always-err c.read.result _ refl) c.read.ensures.run
+
+pub returns-in-None-clause-step : goal.returns-in-None-clause-step
+returns-in-None-clause-step g c =
+    let a = c.args in
+    let m = a.self.now in
+    called-none g.D.Device.meaning g.D.Device.moves g.met.D.Device.onward verity.label_of verity.below_of cache.table cache.below_of m.store (state_of m.state) (read (extent_of a.handle.now) a.f (length a.buf.now)) c.wipe.new.buf c.wipe.ensures (sym (ap (option_map shape_of) c.in-None.is) ∙ c.geometry.ensures)

@@ -1,0 +1,2 @@
+pub mod Mount
+pub mod Law

@@ -1,0 +1,35 @@
+// Making a mount, and ending it.
+ghost use Rattle.std.specs.Prelude.{◌≡◌};
+ghost use Rattle.calls.specs.Mount.{made};
+ghost use Rattle.verity.specs.Anchored.{told_by};
+ghost use Rattle.mount.specs.Law.{IsLabelOf, LawFrom};
+ghost use Rattle.mount.specs.Mount.{device_of, mounted_of};
+
+use crate::mount::Mount;
+use cache::Cache;
+use device::Device;
+use digest::Digest;
+use geometry::Label;
+use reader::State;
+use verity::Verity;
+
+impl<H: Digest + Drop, D: Device> Mount<H, D> {
+    // A mount of the card that this label tells of. A label that is not good makes every call a refusal.
+    pub fn new(digest: H, label: &Label<'_>, device: D) -> Mount<H, D>
+        ensures made { mounted_of result ≡ made (told_by H.NUMBER H.LEN H.meaning label.now) }
+        ensures device { device_of result ≡ device }
+        ensures law { (p : _) → IsLabelOf H.NUMBER H.LEN H.meaning p label.now → LawFrom D.meaning D.moves p (mounted_of result) (device_of result) }
+    {
+        Mount {
+            store: Cache::new(Verity::new(digest, label, device)),
+            state: State::new(),
+        }
+    }
+
+    // Gives the device back.
+    pub fn into_device(self) -> D
+        ensures { result ≡ device_of self }
+    {
+        self.store.into_below().into_below()
+    }
+}
