@@ -31,7 +31,7 @@ fn digit_value(c: u8) -> Option<u8>
 }
 
 // The byte of two digits.
-fn byte_of(high: u8, low: u8) -> Option<u8>
+pub(crate) fn byte_of(high: u8, low: u8) -> Option<u8>
     ensures { result ≡ byte_of high low }
 {
     Some(digit_value(high)? * 16 + digit_value(low)?)

@@ -1,0 +1,24 @@
+// Numbers in decimal digits.
+ghost use Rattle.std.specs.Prelude.{◌≡◌};
+ghost use Rattle.std.specs.Char.{is_ascii_digit};
+ghost use Rattle.std.specs.List.{list_all};
+ghost use Rattle.text.specs.Number.{number_of};
+
+use std::str;
+
+#[tactic(auto)]
+fn all_digits(text: &[u8]) -> bool
+    ensures { result ≡ list_all is_ascii_digit text.now }
+{
+    text.iter().all(|byte| byte.is_ascii_digit())
+}
+
+// The number that a text of digits stands for, or none where it is another text, or the number has more than 32 bits.
+pub fn number(text: &[u8]) -> Option<u32>
+    ensures { result ≡ number_of text.now }
+{
+    match str::from_utf8(text) {
+        Ok(digits) if all_digits(text) => digits.parse::<u32>().ok(),
+        _ => None,
+    }
+}
