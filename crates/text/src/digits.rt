@@ -1,8 +1,9 @@
 // Bytes in hexadecimal.
-ghost use Rattle.std.specs.Prelude.{◌≡◌, ◌<◌, IfOk, option_map, string_bytes};
+ghost use Rattle.std.specs.Prelude.{◌≡◌, ◌<◌, IfOk, Some, option_map, string_bytes};
 ghost use Rattle.text.specs.Hex.{byte_of, digit_of, digit_value, hex_of, unhex_of};
 
 use std::alloc::{AllocError, Global};
+use std::fmt;
 
 fn digit(n: u8) -> char
     requires { n < 16 }
@@ -12,16 +13,26 @@ fn digit(n: u8) -> char
     char::from_digit(u32::from(n), 16).unwrap()
 }
 
+// Prints two digits for each byte.
+#[derive(Clone, Copy)]
+pub struct Digits<'a>(pub &'a [u8]);
+
+impl fmt::Display for Digits<'_> {
+    ghost output = { λ bytes. Some (hex_of bytes.0.now) };
+
+    fn fmt<W: fmt::Write>(&self, f: &mut fmt::Formatter<W>) -> fmt::Result {
+        for byte in self.0 {
+            write!(f, "{}{}", digit(byte / 16), digit(byte % 16))?;
+        }
+        Ok(())
+    }
+}
+
 // Two digits for each byte.
 pub fn hex(heap: Global, bytes: &[u8]) -> Result<String, AllocError>
     ensures { IfOk result (λ s. string_bytes s ≡ hex_of bytes.now) }
 {
-    let mut text = String::new(heap);
-    for byte in bytes {
-        text.push(digit(byte / 16))?;
-        text.push(digit(byte % 16))?;
-    }
-    Ok(text)
+    format!(in heap; "{}", Digits(bytes))
 }
 
 fn digit_value(c: u8) -> Option<u8>

@@ -3,7 +3,7 @@ ghost use Rattle.std.specs.Prelude.{◌≡◌, ◌+◌, ◌<◌, ◌≤◌, ◌+
 ghost use Rattle.std.specs.Result.{result_ok};
 ghost use Rattle.text.specs.Hex.{hex_of};
 ghost use Rattle.text.specs.Name.{name_of, named};
-ghost use Rattle.text.specs.Sum.{sum_of};
+ghost use Rattle.text.specs.Sum.{label_number, size_of, sum_of};
 
 use crate::digits::hex;
 use digest::{Digest, Refusal, Sha256, Sha512};
@@ -34,6 +34,26 @@ pub enum Unhashed {
 
 impl Function {
     pub const ALL: [Function; 2] = [Function::Sha256, Function::Sha512];
+
+    // Bytes of a digest.
+    pub fn size(self) -> usize
+        ensures { result ≡ size_of self }
+    {
+        match self {
+            Function::Sha256 => Sha256::LEN,
+            Function::Sha512 => Sha512::LEN,
+        }
+    }
+
+    // The function's number in a label.
+    pub fn label_number(self) -> u32
+        ensures { result ≡ label_number self }
+    {
+        match self {
+            Function::Sha256 => Sha256::NUMBER,
+            Function::Sha512 => Sha512::NUMBER,
+        }
+    }
 
     // The digest of `first` joined to `second`, in hexadecimal.
     pub fn hex(self, heap: Global, first: &[u8], second: &[u8]) -> Result<String, Unhashed>

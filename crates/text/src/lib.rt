@@ -12,6 +12,6 @@ mod tests;
 
 pub use bytes::Bytes;
 pub use decimal::number;
-pub use digits::{hex, unhex};
+pub use digits::{Digits, hex, unhex};
 pub use function::{Function, Unhashed, UnknownFunction};
 pub use laws::digits_stand;
