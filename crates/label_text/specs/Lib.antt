@@ -1,0 +1,3 @@
+pub mod Key
+pub mod Lines
+pub mod Seen
