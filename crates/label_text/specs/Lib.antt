@@ -1,3 +1,5 @@
 pub mod Key
+pub mod Label
 pub mod Lines
 pub mod Seen
+pub mod Values

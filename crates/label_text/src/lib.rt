@@ -3,7 +3,11 @@
 
 mod fault;
 mod key;
+mod label;
 mod lines;
+mod read;
+mod values;
 
 pub use fault::Fault;
 pub use key::Key;
+pub use label::LabelText;

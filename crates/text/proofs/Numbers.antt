@@ -6,7 +6,8 @@ use Rattle.std.specs.Result.{OkIff, result_ok}
 use Rattle.std.specs.Str.{IsUtf8}
 use Rattle.std.specs.Str.Parse.{ParsesUnsigned, digits_value}
 use Rattle.std.proofs.lemmas.Bool.{cases_Bool, cond-true, cond-false, lt-ltb, ltb-true, and_from, and_parts, false_from_ne_true}
-use Rattle.std.proofs.lemmas.Fmt.{IsAscii-from_digits}
+use Rattle.std.proofs.lemmas.Fmt.{IsAscii-from_digits, decimal_nonempty, digits_decimal, digits_value-decimal}
+use Rattle.std.specs.Fmt.{decimal}
 use Rattle.std.proofs.lemmas.Str.{IsUtf8-from_ascii}
 use Rattle.std.proofs.lemmas.Str.Parse.{IsNumeralModel, numerals_by_value, parse_digits}
 use Rattle.text.specs.Number.{number_of}
@@ -29,3 +30,12 @@ pub undecoded : (text : List ℕ) → ¬ (IsUtf8 text) → None ≡ number_of te
 undecoded text h =
     sym (cond-false _ (Some (digits_value 10 text)) None (false_from_ne_true _ (λ all.
         h (IsUtf8-from_ascii text (IsAscii-from_digits text (own.to text (and_parts _ _ (and_parts _ _ all).0).0))))))
+
+-- a number that was printed reads as itself
+pub number_of-decimal : (n : ℕ) → n < 2 ^ 32 → number_of (decimal n) ≡ Some n
+number_of-decimal n h =
+    let small : n < 2 ^ 64 = omega arith in
+    let value : digits_value 10 (decimal n) ≡ n = digits_value-decimal own n small in
+    cond-true _ (Some (digits_value 10 (decimal n))) None
+        (and_from _ _ (and_from _ _ (digits_decimal own n small) (lt-ltb _ _ (decimal_nonempty n small))) (lt-ltb _ _ (rw value h)))
+    ∙ ap Some value

@@ -62,7 +62,7 @@ byte_of-two_digits b h =
     rw (digit_value-digit_of (b / 16) high, digit_value-digit_of (b % 16) low) (ap Some whole)
 
 -- the bytes of their own digits
-unhex_of-hex_of : (bytes : List ℕ) → ((i : ℕ) → get_or bytes i 0 < 256) → unhex_of (hex_of bytes) ≡ Some bytes
+pub unhex_of-hex_of : (bytes : List ℕ) → ((i : ℕ) → get_or bytes i 0 < 256) → unhex_of (hex_of bytes) ≡ Some bytes
 unfolding unhex_of
 unhex_of-hex_of [] h = refl
 unhex_of-hex_of (b ∷ rest) h = rw (byte_of-two_digits b (h 0), unhex_of-hex_of rest (λ i. h (suc i)))

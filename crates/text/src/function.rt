@@ -35,6 +35,19 @@ pub enum Unhashed {
 impl Function {
     pub const ALL: [Function; 2] = [Function::Sha256, Function::Sha512];
 
+    // The function that has this very name.
+    pub fn named(name: &[u8]) -> Option<Function>
+        ensures { result ≡ named name.now }
+    {
+        if name == b"sha256".as_slice() {
+            Some(Function::Sha256)
+        } else if name == b"sha512".as_slice() {
+            Some(Function::Sha512)
+        } else {
+            None
+        }
+    }
+
     // Bytes of a digest.
     pub fn size(self) -> usize
         ensures { result ≡ size_of self }
@@ -87,11 +100,7 @@ impl FromStr for Function {
     ghost from_str_gives = { λ text r. result_ok r ≡ named text };
 
     fn from_str(text: &str) -> Result<Function, UnknownFunction> {
-        match text {
-            "sha256" => Ok(Function::Sha256),
-            "sha512" => Ok(Function::Sha512),
-            _ => Err(UnknownFunction),
-        }
+        Function::named(text.as_bytes()).ok_or(UnknownFunction)
     }
 }
 

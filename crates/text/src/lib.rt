@@ -14,4 +14,4 @@ pub use bytes::Bytes;
 pub use decimal::number;
 pub use digits::{Digits, hex, unhex};
 pub use function::{Function, Unhashed, UnknownFunction};
-pub use laws::digits_stand;
+pub use laws::{digits_stand, numbers_stand};
