@@ -1,10 +1,12 @@
 -- The label that a text tells, or the first fault in the order of the keys.
-use Rattle.std.specs.Prelude.{ℕ, List, Option, Result, Ok, Err}
+use Rattle.std.specs.Prelude.{ℕ, ◌==◌, ◌&&◌, if◌then◌else◌, List, length, Option, Some, None, Result, Ok, Err, nat_le}
 use Rattle.std.specs.Option.{ok_or}
 use Rattle.text.specs.Bytes.{bytes_of}
 use Rattle.text.specs.Name.{named}
 use Rattle.text.specs.Number.{number_of}
+use Rattle.text.specs.Sum.{size_of}
 use Rattle.text.specs.declared.function.Function.{Function}
+use Rattle.tree.specs.Shape.{Shape}
 use Rattle.label_text.specs.Lines.{value_of}
 use Rattle.label_text.specs.Seen.{◌>>=◌}
 use Rattle.label_text.specs.Values.{hash_type_of, root_of, salt_of}
@@ -47,3 +49,11 @@ label_in text = do
   salt ← read_by salt_of Salt text
   root ← read_by (root_of function) RootHash text
   Ok (record { function = function; blocks = blocks; data_block = data_block; hash_block = hash_block; salt = salt; root = root })
+
+-- what a label can hold: a salt that is not too long for any good label, and a root that is as long as a digest
+abbrev pub fitting : Told → Option Told
+fitting t = if nat_le (length t.salt) 256 && length t.root == size_of t.function then Some t else None
+
+-- the label of a tree of this shape
+abbrev pub of_tree : Function → Shape → List ℕ → List ℕ → Told
+of_tree function s salt root = record { function = function; blocks = s.blocks; data_block = s.data_block; hash_block = s.hash_block; salt = salt; root = root }

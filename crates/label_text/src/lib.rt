@@ -2,6 +2,7 @@
 #![tactic(auto)]
 
 mod fault;
+mod give;
 mod key;
 mod label;
 mod lines;
