@@ -12,3 +12,13 @@ front_of HashBlockSize = codes "Hash block size:"
 front_of HashAlgorithm = codes "Hash algorithm:"
 front_of Salt = codes "Salt:"
 front_of RootHash = codes "Root hash:"
+
+-- the same with the blanks that veritysetup prints behind it
+abbrev pub heading_of : Key → List ℕ
+heading_of HashType = codes "Hash type:       \t"
+heading_of DataBlocks = codes "Data blocks:     \t"
+heading_of DataBlockSize = codes "Data block size: \t"
+heading_of HashBlockSize = codes "Hash block size: \t"
+heading_of HashAlgorithm = codes "Hash algorithm:  \t"
+heading_of Salt = codes "Salt:            \t"
+heading_of RootHash = codes "Root hash:      \t"

@@ -1,5 +1,6 @@
 pub mod Key
 pub mod Label
 pub mod Lines
+pub mod Printed
 pub mod Seen
 pub mod Values

@@ -1,6 +1,6 @@
 // The lines of a label that are read.
 ghost use Rattle.std.specs.Prelude.{◌≡◌, Some};
-ghost use Rattle.label_text.specs.Key.{front_of};
+ghost use Rattle.label_text.specs.Key.{front_of, heading_of};
 
 use std::fmt;
 
@@ -28,6 +28,21 @@ impl Key {
             Key::HashAlgorithm => "Hash algorithm:",
             Key::Salt => "Salt:",
             Key::RootHash => "Root hash:",
+        }
+    }
+
+    // The same with the blanks that veritysetup prints behind it.
+    pub(crate) fn heading(self) -> &'static str
+        ensures { result.now ≡ heading_of self }
+    {
+        match self {
+            Key::HashType => "Hash type:       \t",
+            Key::DataBlocks => "Data blocks:     \t",
+            Key::DataBlockSize => "Data block size: \t",
+            Key::HashBlockSize => "Hash block size: \t",
+            Key::HashAlgorithm => "Hash algorithm:  \t",
+            Key::Salt => "Salt:            \t",
+            Key::RootHash => "Root hash:      \t",
         }
     }
 }

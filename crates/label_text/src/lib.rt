@@ -5,7 +5,9 @@ mod fault;
 mod give;
 mod key;
 mod label;
+mod line;
 mod lines;
+mod print;
 mod read;
 mod values;
 
