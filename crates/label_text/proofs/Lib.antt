@@ -1,2 +1,4 @@
+pub mod Printing
+pub mod Reading
 mod Roots
 mod Splits

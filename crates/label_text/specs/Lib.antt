@@ -1,5 +1,6 @@
 pub mod Key
 pub mod Label
+pub mod Laws
 pub mod Lines
 pub mod Printed
 pub mod Seen
