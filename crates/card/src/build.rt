@@ -7,12 +7,12 @@ use crate::fault::Fault;
 use crate::options::{Build, BuildOptions};
 use builder::{Base, BuildFault, Source, build_above, hash_blocks};
 use digest::{Digest, Sha256, Sha512};
-use geometry::Geometry;
+use label_text::LabelText;
 use std::alloc::Global;
 use std::fs;
 use std::fs::File;
 use std::io::Read;
-use text::{Function, hex};
+use text::Function;
 use thiserror::Error;
 
 // Why there is no tree.
@@ -30,9 +30,8 @@ pub enum NoTree {
 // What is to be printed and written.
 #[derive(Drop)]
 struct Built {
-    geometry: Geometry,
+    label: LabelText,
     tree: Vec<u8>,
-    root: Vec<u8>,
 }
 
 // So much of the image is in memory at once: whole blocks of any size, and few enough to stay in a processor's cache.
@@ -124,11 +123,14 @@ fn make<D: Digest>(
     let mut tree = vec![in heap; 0u8; geometry.tree_len()]?;
     let mut root = vec![in heap; 0u8; size]?;
     build_above(digest, &base, tree.as_mut_slice(), root.as_mut_slice()).map_err(NoTree::Refused)?;
-    Ok(Built {
-        geometry,
-        tree,
-        root,
-    })
+    let label = LabelText::new(
+        options.function,
+        &geometry,
+        options.salt.as_slice(),
+        root.as_slice(),
+    )
+    .ok_or(NoTree::Refused(BuildFault::Limit))?;
+    Ok(Built { label, tree })
 }
 
 // Writes the tree beside its place first, so that no half of it is left under its name.
@@ -143,26 +145,6 @@ fn write_tree(rt: &HostRuntime, name: String, tree: &[u8]) -> Result<(), Fault> 
         let _ = fs::remove_file(rt, part.as_str());
         Fault::File(name, error)
     })
-}
-
-fn print_label(rt: &HostRuntime, options: &BuildOptions, built: &Built) -> Result<(), Fault> {
-    let heap = rt.alloc();
-    let geometry = &built.geometry;
-    let root = hex(heap, built.root.as_slice())?;
-    let salt = if options.salt.is_empty() {
-        String::from_str(heap, "-")?
-    } else {
-        hex(heap, options.salt.as_slice())?
-    };
-    println!(rt; "Hash type:       \t1")?;
-    println!(rt; "Data blocks:     \t{}", geometry.blocks())?;
-    println!(rt; "Data block size: \t{}", geometry.data_block())?;
-    println!(rt; "Hash blocks:     \t{}", geometry.tree_blocks())?;
-    println!(rt; "Hash block size: \t{}", geometry.hash_block())?;
-    println!(rt; "Hash algorithm:  \t{}", options.function)?;
-    println!(rt; "Salt:            \t{salt}")?;
-    println!(rt; "Root hash:      \t{root}")?;
-    Ok(())
 }
 
 // The tree of an image, by the digest that is asked for.
@@ -180,5 +162,5 @@ pub fn build_tree(rt: &HostRuntime, asked: Build) -> Result<(), Fault> {
     let image = asked.image;
     let built = build_image(rt, &options, image.as_str()).map_err(|fault| fault.of_file(image))?;
     write_tree(rt, asked.tree, built.tree.as_slice())?;
-    print_label(rt, &options, &built)
+    Ok(print!(rt; "{}", built.label)?)
 }
