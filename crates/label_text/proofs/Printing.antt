@@ -106,9 +106,9 @@ key_line v solid key rest ls h = one_line (heading_of key) (v.of key) rest (head
 pub lines-printed : (v : Values) → AreSolid v → lines (printed v) ≡ lines_of v
 lines-printed v solid =
     key_line v solid HashType _ _ (key_line v solid DataBlocks _ _ (key_line v solid DataBlockSize _ _
-        (maybe_line v.has_tree tree_heading v.tree _ refl solid.tree
-        ∙ ap (λ more. lines_above v ++ more)
-            (key_line v solid HashBlockSize _ _ (key_line v solid HashAlgorithm _ _ (key_line v solid Salt _ _ (key_line v solid RootHash [] ([] ∷ []) refl)))))))
+    (maybe_line v.has_tree tree_heading v.tree _ refl solid.tree
+    ∙ ap (λ more. lines_above v ++ more)
+    (key_line v solid HashBlockSize _ _ (key_line v solid HashAlgorithm _ _ (key_line v solid Salt _ _ (key_line v solid RootHash [] ([] ∷ []) refl)))))))
 
 -- each key has one line
 one_each : (of : Key → List ℕ) (tree : List ℕ) (has_tree : Bool) (key : Key) → filter_map (value_in key) (lines_of (record { of = of; has_tree = has_tree; tree = tree })) ≡ past_blanks (of key) ∷ []

@@ -35,7 +35,7 @@ digits_solid zero n acc h = h
 digits_solid (suc k) n acc h =
     let more : list_all is_solid (digit_glyph false (n % 10) ∷ acc) ≡ true = rw (glyph_solid (n % 10)) h in
     cond_both (n / 10 == 0) (digit_glyph false (n % 10) ∷ acc) (digits_onto k 10 false (n / 10) (digit_glyph false (n % 10) ∷ acc)) (λ ds. list_all is_solid ds ≡ true)
-        (λ _. more) (λ _. digits_solid k (n / 10) (digit_glyph false (n % 10) ∷ acc) more)
+    (λ _. more) (λ _. digits_solid k (n / 10) (digit_glyph false (n % 10) ∷ acc) more)
 
 decimal_solid : (n : ℕ) → list_all is_solid (decimal n) ≡ true
 unfolding digits
@@ -65,7 +65,7 @@ salt_of-salt_text : (salt : List ℕ) → ((i : ℕ) → get_or salt i 0 < 256) 
 salt_of-salt_text [] each few = refl
 salt_of-salt_text (b ∷ bytes) each few =
     rw (ne_eqb (suc (suc (length (hex_of bytes)))) 0 (λ none. absurd (omega arith)), and_right (digit_of (b / 16) == 45) false refl)
-        (unhexed-hex_of 256 (b ∷ bytes) each few)
+    (unhexed-hex_of 256 (b ∷ bytes) each few)
 
 root_of-hex_of : (f : Function) (root : List ℕ) → ((i : ℕ) → get_or root i 0 < 256) → length root ≡ size_of f → root_of f (hex_of root) ≡ Some root
 root_of-hex_of f root each whole =
@@ -107,11 +107,13 @@ pub printed_reads : (t : Told) → Fits t → label_in (text_of t) ≡ Ok t
 unfolding label_in
 printed_reads t f =
     let at : (key : Key) → value_of key (text_of t) ≡ Ok (value_of_label t key) = λ key. ap (value_of key) (text_of-printed t) ∙ value_of-printed (values t) (solid t) key in
-    rw (read hash_type_of HashType (text_of t) _ tt (at HashType) refl,
-        read number_of DataBlocks (text_of t) _ t.blocks (at DataBlocks) (number_of-decimal t.blocks f.blocks),
-        read number_of DataBlockSize (text_of t) _ t.data_block (at DataBlockSize) (number_of-decimal t.data_block f.data_block),
-        read number_of HashBlockSize (text_of t) _ t.hash_block (at HashBlockSize) (number_of-decimal t.hash_block f.hash_block),
-        read named HashAlgorithm (text_of t) _ t.function (at HashAlgorithm) (named-name_of t.function),
-        read salt_of Salt (text_of t) _ t.salt (at Salt) (salt_of-salt_text t.salt f.salt_bytes f.salt),
-        read (root_of t.function) RootHash (text_of t) _ t.root (at RootHash) (root_of-hex_of t.function t.root f.root_bytes f.root))
-        refl
+    rw (
+      read hash_type_of HashType (text_of t) _ tt (at HashType) refl,
+      read number_of DataBlocks (text_of t) _ t.blocks (at DataBlocks) (number_of-decimal t.blocks f.blocks),
+      read number_of DataBlockSize (text_of t) _ t.data_block (at DataBlockSize) (number_of-decimal t.data_block f.data_block),
+      read number_of HashBlockSize (text_of t) _ t.hash_block (at HashBlockSize) (number_of-decimal t.hash_block f.hash_block),
+      read named HashAlgorithm (text_of t) _ t.function (at HashAlgorithm) (named-name_of t.function),
+      read salt_of Salt (text_of t) _ t.salt (at Salt) (salt_of-salt_text t.salt f.salt_bytes f.salt),
+      read (root_of t.function) RootHash (text_of t) _ t.root (at RootHash) (root_of-hex_of t.function t.root f.root_bytes f.root),
+    )
+    refl

@@ -10,6 +10,8 @@ mod line;
 mod lines;
 mod print;
 mod read;
+#[cfg(test)]
+mod tests;
 mod values;
 
 pub use fault::Fault;

@@ -28,11 +28,13 @@ impl LabelText {
         let blocks = number_at(Key::DataBlocks, text)?;
         let data_block = number_at(Key::DataBlockSize, text)?;
         let hash_block = number_at(Key::HashBlockSize, text)?;
-        let function = Function::named(value(Key::HashAlgorithm, text)?)
-            .ok_or(Fault::Malformed(Key::HashAlgorithm))?;
+        let function = Function::named(value(Key::HashAlgorithm, text)?).ok_or(Fault::Malformed(
+            Key::HashAlgorithm,
+        ))?;
         let salt = salt(value(Key::Salt, text)?).ok_or(Fault::Malformed(Key::Salt))?;
-        let root = root(function, value(Key::RootHash, text)?)
-            .ok_or(Fault::Malformed(Key::RootHash))?;
+        let root = root(function, value(Key::RootHash, text)?).ok_or(Fault::Malformed(
+            Key::RootHash,
+        ))?;
         Ok(LabelText {
             function,
             blocks,

@@ -20,8 +20,8 @@ told text (Ok x) digits h =
     ap Some h.1 ∙ sym (cond-true _ (Some (digits_value 10 text)) None (and_from _ _ (and_from _ _ digits (lt-ltb _ _ h.0.0)) (lt-ltb _ _ h.0.1)))
 told text (Err e) digits h =
     sym (cond-false _ (Some (digits_value 10 text)) None (false_from_ne_true _ (λ all.
-        let parts = and_parts _ _ all in
-        h (ltb-true _ _ (and_parts _ _ parts.0).1, ltb-true _ _ parts.1))))
+    let parts = and_parts _ _ all in
+    h (ltb-true _ _ (and_parts _ _ parts.0).1, ltb-true _ _ parts.1))))
 
 pub parsed : {E : Type 0} (text : List ℕ) (r : Result ℕ E) → list_all is_ascii_digit text ≡ true → ParsesUnsigned 32 10 text r → result_ok r ≡ number_of text
 parsed text r digits h = told text r digits (parse_digits own 32 text r h digits)
@@ -29,7 +29,7 @@ parsed text r digits h = told text r digits (parse_digits own 32 text r h digits
 pub undecoded : (text : List ℕ) → ¬ (IsUtf8 text) → None ≡ number_of text
 undecoded text h =
     sym (cond-false _ (Some (digits_value 10 text)) None (false_from_ne_true _ (λ all.
-        h (IsUtf8-from_ascii text (IsAscii-from_digits text (own.to text (and_parts _ _ (and_parts _ _ all).0).0))))))
+    h (IsUtf8-from_ascii text (IsAscii-from_digits text (own.to text (and_parts _ _ (and_parts _ _ all).0).0))))))
 
 -- a number that was printed reads as itself
 pub number_of-decimal : (n : ℕ) → n < 2 ^ 32 → number_of (decimal n) ≡ Some n
@@ -37,5 +37,5 @@ number_of-decimal n h =
     let small : n < 2 ^ 64 = omega arith in
     let value : digits_value 10 (decimal n) ≡ n = digits_value-decimal own n small in
     cond-true _ (Some (digits_value 10 (decimal n))) None
-        (and_from _ _ (and_from _ _ (digits_decimal own n small) (lt-ltb _ _ (decimal_nonempty n small))) (lt-ltb _ _ (rw value h)))
+    (and_from _ _ (and_from _ _ (digits_decimal own n small) (lt-ltb _ _ (decimal_nonempty n small))) (lt-ltb _ _ (rw value h)))
     ∙ ap Some value

@@ -10,7 +10,7 @@ returns-then-text-ne0 g c = unhexed_none g.row.N c.args.text.now (odd c.args.tex
 pub returns-in_err-buffer : goal.returns-in_err-buffer
 returns-in_err-buffer g c =
     rw c.from_residual.ensures (unhexed_none g.row.N c.args.text.now
-        (unpaired c.loop-rest.rest.now _ _ c.in-len2-up.len_at_least (sym c.byte_of.ensures ∙ c.in_err-buffer.was) c.loop-rest.invariant.found))
+    (unpaired c.loop-rest.rest.now _ _ c.in-len2-up.len_at_least (sym c.byte_of.ensures ∙ c.in_err-buffer.was) c.loop-rest.invariant.found))
 
 pub loop-rest-preserved : goal.loop-rest-preserved
 loop-rest-preserved g c = record {
