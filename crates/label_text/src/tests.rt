@@ -1,11 +1,11 @@
 // The labels of five cards as veritysetup printed them, and faults of each line.
+mod cards;
+
 use crate::{Fault, Key, LabelText};
+use cards::CARDS;
 use std::alloc::{AllocError, Global};
-use std::fs;
 use std::test::Fail;
 use text::Function;
-
-const CARDS: [&str; 5] = ["small1k", "mixed", "mixed512", "plain", "many"];
 
 // FIPS 180-4's digest of "abc" stands for a root.
 const LINES: [(Key, &str); 7] = [
@@ -45,16 +45,15 @@ fn is_printed(line: &str) -> bool {
 #[test]
 fn prints_what_veritysetup_printed(rt: HostRuntime) -> Result<(), Fail> {
     let heap = rt.alloc();
-    for name in CARDS {
-        let text = fs::read_to_string(&rt, format!(in heap; "{name}.label")?)?;
+    for text in CARDS {
         let mut want = String::new(heap);
-        for line in text.as_str().lines() {
+        for line in text.lines() {
             if is_printed(line) {
                 want.push_str(line)?;
                 want.push_str("\n")?;
             }
         }
-        let printed = match read(&text) {
+        let printed = match LabelText::read(text.as_bytes()) {
             Ok(label) => format!(in heap; "{label}")?,
             Err(fault) => format!(in heap; "{fault}")?,
         };
