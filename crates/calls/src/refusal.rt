@@ -3,6 +3,7 @@ ghost use Rattle.std.specs.Prelude.{◌≡◌};
 ghost use Rattle.calls.specs.Refusal.{mount_number, places_of, refusal_number, volume_fault_number, volume_fault_places, within_path};
 
 use layers::{Place, StorageFault};
+use std::fmt;
 use volume::{PathFault, VolumeFault};
 
 // The rules of the mount itself.
@@ -27,6 +28,21 @@ impl MountRule {
         ensures { result ≡ mount_number self }
     {
         self as u8
+    }
+}
+
+impl fmt::Display for MountRule {
+    fn fmt<W: fmt::Write>(&self, f: &mut fmt::Formatter<W>) -> fmt::Result {
+        let text = match self {
+            MountRule::Label => "a label with a value outside its limit, or of another digest",
+            MountRule::Handle =>
+                "the handle's file is not within this volume, or no handle is held",
+            MountRule::Offset => "the offset is behind the file's end",
+            MountRule::Length => "the buffer has another length than the call fills",
+            MountRule::Held => "65535 handles are held, and no more can be",
+            MountRule::NotBegun => "the mount has not begun",
+        };
+        write!(f, "{}: {text}", self.number())
     }
 }
 
@@ -103,6 +119,16 @@ impl<R> Refusal<StorageFault<R>> {
                 storage: None,
             },
             Refusal::Path(PathFault::Volume(at, fault)) => volume_fault_places(Some(*at), fault),
+        }
+    }
+}
+
+impl<F: fmt::Display> fmt::Display for Refusal<F> {
+    fn fmt<W: fmt::Write>(&self, f: &mut fmt::Formatter<W>) -> fmt::Result {
+        match self {
+            Refusal::Mount(rule) => write!(f, "{rule}"),
+            Refusal::Volume(fault) => write!(f, "{fault}"),
+            Refusal::Path(fault) => write!(f, "{fault}"),
         }
     }
 }

@@ -4,6 +4,8 @@ ghost use Rattle.volume.specs.declared.fault.PathFault.TheVariants.{Volume};
 ghost use Rattle.volume.specs.declared.fault.VolumeFault.TheVariants.{Storage};
 ghost use Rattle.volume.specs.Fault.{path_number, volume_number};
 
+use std::fmt;
+
 // The rules that a volume can break.
 #[derive(Clone, Copy, PartialEq, Eq, Debug, Drop)]
 pub enum VolumeRule {
@@ -41,6 +43,27 @@ impl VolumeRule {
     }
 }
 
+impl fmt::Display for VolumeRule {
+    fn fmt<W: fmt::Write>(&self, f: &mut fmt::Formatter<W>) -> fmt::Result {
+        let text = match self {
+            VolumeRule::Text => "no romfs volume begins here",
+            VolumeRule::Size => "the volume's size is no multiple of 16, or above the image's",
+            VolumeRule::Sum => "the first words of the volume do not sum to zero",
+            VolumeRule::VolumeName =>
+                "the volume's name does not end, or leaves no room for a header",
+            VolumeRule::Range => "a header is sought outside the volume",
+            VolumeRule::Name => "a header's name is not 1 to 127 printable bytes without a slash",
+            VolumeRule::HeaderSum => "the words of a header do not sum to zero",
+            VolumeRule::Next => "a header's next one does not lie behind it",
+            VolumeRule::Info => "a header has an info that its kind cannot have",
+            VolumeRule::Data => "a file's bytes reach past the end of the volume",
+            VolumeRule::Links => "this is the ninth hard link in a row",
+            VolumeRule::LinkedDirectory => "a hard link leads to this directory",
+        };
+        write!(f, "{}: {text}", self.number())
+    }
+}
+
 #[derive(Clone, Copy, PartialEq, Eq, Debug, Drop)]
 pub enum VolumeFault<F> {
     // A rule that is broken at this offset.
@@ -55,6 +78,17 @@ impl<F> From<(F, u32)> for VolumeFault<F> {
 
     fn from(lower: (F, u32)) -> VolumeFault<F> {
         VolumeFault::Storage(lower.1, lower.0)
+    }
+}
+
+impl<F: fmt::Display> fmt::Display for VolumeFault<F> {
+    fn fmt<W: fmt::Write>(&self, f: &mut fmt::Formatter<W>) -> fmt::Result {
+        match self {
+            VolumeFault::Rule(at, rule) => write!(f, "{rule}, at byte {at} of the volume"),
+            VolumeFault::Storage(at, below) => {
+                write!(f, "{below}, reading from byte {at} of the volume on")
+            }
+        }
     }
 }
 
@@ -79,6 +113,18 @@ impl PathRule {
     }
 }
 
+impl fmt::Display for PathRule {
+    fn fmt<W: fmt::Write>(&self, f: &mut fmt::Formatter<W>) -> fmt::Result {
+        let text = match self {
+            PathRule::Component => "a name is missing, or is `.` or `..`",
+            PathRule::Missing => "there is no such entry",
+            PathRule::NotDirectory => "this is no directory",
+            PathRule::NotFile => "this is no regular file",
+        };
+        write!(f, "{}: {text}", self.number())
+    }
+}
+
 #[derive(Clone, Copy, PartialEq, Eq, Debug, Drop)]
 pub enum PathFault<F> {
     // A rule that is broken by the component at this offset of the path.
@@ -93,5 +139,14 @@ impl<F> From<(VolumeFault<F>, usize)> for PathFault<F> {
 
     fn from(lower: (VolumeFault<F>, usize)) -> PathFault<F> {
         PathFault::Volume(lower.1, lower.0)
+    }
+}
+
+impl<F: fmt::Display> fmt::Display for PathFault<F> {
+    fn fmt<W: fmt::Write>(&self, f: &mut fmt::Formatter<W>) -> fmt::Result {
+        match self {
+            PathFault::Rule(at, rule) => write!(f, "{rule}, at byte {at} of the path"),
+            PathFault::Volume(at, fault) => write!(f, "{fault}, for byte {at} of the path"),
+        }
     }
 }
