@@ -1,5 +1,5 @@
 // The six calls of a mount.
-ghost use Rattle.std.specs.Prelude.{◌≡◌, ◌<◌, ◌+◌, ◌-◌, cond, [], OnErr, OnOk, IfErr, is_ok, nat_lt, length, option_map, replicate};
+ghost use Rattle.std.specs.Prelude.{◌≡◌, ◌<◌, ◌≤◌, ◌+◌, ◌-◌, cond, [], OnErr, OnOk, IfErr, IfOk, is_ok, nat_lt, length, option_map, replicate};
 ghost use Rattle.calls.specs.Calls as calls_of;
 ghost use Rattle.geometry.specs.Of.{shape_of};
 ghost use Rattle.reader.specs.Calls.{extent_of, refused};
@@ -58,6 +58,7 @@ impl<H: Digest, D: Device> Mount<H, D> {
         buf: &mut [u8],
     ) -> Result<usize, Refusal<StorageFault<D::Refusal>>>
         ensures step { Called D.meaning D.moves (mounted_of self.old) (device_of self.old) (calls_of.read (extent_of handle.now) f (length buf.old)) (replied calls_of.count buf.new result) (mounted_of self.new) (device_of self.new) }
+        ensures few { IfOk result (λ c. c ≤ length buf.old) }
         ensures zeros { OnErr result (buf.new ≡ replicate (length buf.old) 0) }
         ensures held { held_of self.new ≡ held_of self.old }
     {

@@ -1,5 +1,5 @@
 // The six calls over a store, which gives the blocks of the volume's image.
-ghost use Rattle.std.specs.Prelude.{◌≡◌, ◌<◌, ◌+◌, ◌-◌, cond, [], OnErr, OnOk, IfErr, is_ok, nat_lt, length, replicate};
+ghost use Rattle.std.specs.Prelude.{◌≡◌, ◌<◌, ◌≤◌, ◌+◌, ◌-◌, cond, [], OnErr, OnOk, IfErr, IfOk, is_ok, nat_lt, length, replicate};
 ghost use Rattle.geometry.specs.Of.{shape_of};
 ghost use Rattle.volume.specs.Fetches.{settled};
 ghost use Rattle.calls.specs.Calls.{all, call_rules, closed, count, fresh, listed, opened, started};
@@ -88,6 +88,7 @@ impl State {
         buf: &mut [u8],
     ) -> Result<usize, Refusal<D::Refusal>>
         ensures run { CallRan D.meaning D.moves (shape_of geometry.now) (state_of self.now) (calls_of.read (extent_of handle.now) f (length buf.old)) store.old (outcome count buf.new (state_of self.now) result) store.new }
+        ensures few { IfOk result (λ c. c ≤ length buf.old) }
         ensures zeros { OnErr result (buf.new ≡ replicate (length buf.old) 0) }
     {
         wipe(buf);
