@@ -1,0 +1,50 @@
+// A device that counts the questions put to the one below, and passes each on.
+ghost use Rattle.std.specs.Prelude.{◌≡◌};
+
+use device::{Area, Device};
+
+#[derive(Drop)]
+pub struct Counting<D: Device> {
+    below: D,
+    asked: u64,
+}
+
+impl<D: Device> Counting<D> {
+    pub fn new(below: D) -> Counting<D>
+        ensures below { result.below ≡ below }
+        ensures asked { result.asked ≡ 0 }
+    {
+        Counting { below, asked: 0 }
+    }
+
+    // How many questions were asked.
+    pub fn asked(&self) -> u64
+        ensures { result ≡ self.now.asked }
+    {
+        self.asked
+    }
+
+    // Gives the device below back.
+    pub fn into_below(self) -> D
+        ensures { result ≡ self.below }
+    {
+        self.below
+    }
+}
+
+impl<D: Device> Device for Counting<D> {
+    type Refusal = D::Refusal;
+
+    ghost meaning = { λ c. D.meaning c.below };
+
+    ghost moves = { λ c q e. D.moves c.below q e.below };
+
+    fn ask(&mut self, area: Area, block: u32, buf: &mut [u8]) -> Result<(), D::Refusal> {
+        self.asked = self.asked.saturating_add(1);
+        self.below.ask(area, block, buf)
+    }
+
+    ghost sized = { λ c. D.sized c.below };
+
+    ghost onward = { λ c e q moved. D.onward c.below e.below q moved };
+}
