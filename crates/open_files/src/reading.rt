@@ -1,0 +1,95 @@
+// A whole file, and the entries of a directory.
+ghost use Rattle.std.specs.Prelude.{◌≡◌, ◌<◌, ◌-◌};
+ghost use Rattle.mount.specs.Mount.{held_of};
+
+use crate::own::give_back;
+use calls::Refusal;
+use device::Device;
+use digest::Digest;
+use layers::StorageFault;
+use mount::Mount;
+use reader::Handle;
+use std::alloc::Global;
+use std::fmt;
+use volume::{Entry, PathFault, PathRule};
+
+// Why there are no contents.
+#[derive(Debug, Drop)]
+pub enum ContentsFault<R> {
+    Refused(Refusal<StorageFault<R>>),
+    Memory,
+}
+
+impl<R: fmt::Display> fmt::Display for ContentsFault<R> {
+    fn fmt<W: fmt::Write>(&self, f: &mut fmt::Formatter<W>) -> fmt::Result {
+        match self {
+            ContentsFault::Refused(refusal) => write!(f, "{refusal}"),
+            ContentsFault::Memory => write!(f, "out of memory"),
+        }
+    }
+}
+
+// The bytes of a file whose handle is held; the handle is given back in each case.
+fn read_whole<H: Digest, D: Device>(
+    heap: Global,
+    mount: &mut Mount<H, D>,
+    handle: Handle,
+) -> Result<Vec<u8>, ContentsFault<D::Refusal>>
+    requires { 0 < held_of mount.old }
+    ensures { held_of mount.new ≡ held_of mount.old - 1 }
+{
+    let Ok(mut bytes) = vec![in heap; 0u8; handle.size() as usize] else {
+        give_back(mount, handle);
+        return Err(ContentsFault::Memory);
+    };
+    match mount.whole(handle, bytes.as_mut_slice()) {
+        Ok(()) => Ok(bytes),
+        Err((handle, fault)) => {
+            give_back(mount, handle);
+            Err(ContentsFault::Refused(fault))
+        }
+    }
+}
+
+// The bytes of the file at a path. No handle is held for it afterwards.
+pub fn contents<H: Digest, D: Device>(
+    heap: Global,
+    mount: &mut Mount<H, D>,
+    path: &[u8],
+) -> Result<Vec<u8>, ContentsFault<D::Refusal>>
+    ensures { held_of mount.new ≡ held_of mount.old }
+{
+    let handle = mount.open(path).map_err(ContentsFault::Refused)?;
+    read_whole(heap, mount, handle)
+}
+
+// An entry of a directory with its name.
+#[derive(Clone, Copy)]
+pub struct Listed {
+    pub entry: Entry,
+    name: [u8; 128],
+}
+
+impl Listed {
+    // The bytes before the first zero.
+    pub fn name(&self) -> &[u8] {
+        let end = self.name.iter().position(|byte| *byte == 0);
+        self.name.get(..end.unwrap_or(128)).unwrap_or(&self.name)
+    }
+}
+
+// The entry with this number in the directory at a path, or none behind the last.
+pub fn entry_at<H: Digest, D: Device>(
+    mount: &mut Mount<H, D>,
+    path: &[u8],
+    index: usize,
+) -> Result<Option<Listed>, Refusal<StorageFault<D::Refusal>>>
+    ensures { held_of mount.new ≡ held_of mount.old }
+{
+    let mut name = [0; 128];
+    match mount.list(path, index, &mut name) {
+        Ok(entry) => Ok(Some(Listed { entry, name })),
+        Err(Refusal::Path(PathFault::Rule(at, PathRule::Missing))) if at == path.len() => Ok(None),
+        Err(fault) => Err(fault),
+    }
+}
