@@ -2,7 +2,10 @@
 ghost use Rattle.std.specs.Prelude.{IfOk, Ok, string_bytes};
 
 use crate::fault::Fault;
+use crate::open_card::CardNames;
 use crate::options::{Build, parse_build};
+use crate::scripts::Run;
+use crate::words::{parse_cat, parse_check, parse_list, parse_run};
 use geometry::SALT_LIMIT;
 use std::alloc::Global;
 use std::env::Args;
@@ -17,6 +20,16 @@ pub enum Command {
         files: Vec<String>,
     },
     Build(Build),
+    List {
+        card: CardNames,
+        path: String,
+    },
+    Cat {
+        card: CardNames,
+        path: String,
+    },
+    Check(CardNames),
+    Run(Run),
     Help,
 }
 
@@ -49,6 +62,14 @@ pub enum Misuse {
     LongSalt(usize),
     #[error("build takes an image and a tree")]
     TwoFiles,
+    #[error("ls takes a label, an image, a tree and at most one path")]
+    ListWords,
+    #[error("cat takes a label, an image, a tree and a path")]
+    CatWords,
+    #[error("check takes a label, an image and a tree")]
+    CheckWords,
+    #[error("run takes a label, an image and a tree, or --turn or --tape with its words")]
+    RunWords,
     #[error("help takes no more words")]
     HelpAlone,
 }
@@ -60,6 +81,10 @@ impl Command {
         match name.as_str() {
             "sum" => parse_sum(heap, words),
             "build" => Ok(Command::Build(parse_build(heap, words)?)),
+            "ls" => parse_list(heap, words),
+            "cat" => Ok(parse_cat(words)?),
+            "check" => Ok(parse_check(words)?),
+            "run" => Ok(Command::Run(parse_run(words)?)),
             "help" | "--help" => parse_help(words),
             _ => Err(Fault::from(Misuse::UnknownCommand(name))),
         }

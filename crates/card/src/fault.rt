@@ -1,6 +1,10 @@
 // Why the program ends with status 1.
 use crate::build::NoTree;
 use crate::command::Misuse;
+use crate::open_card::NoCard;
+use calls::Refusal;
+use layers::StorageFault;
+use media::Outside;
 use std::alloc::AllocError;
 use std::io;
 use thiserror::Error;
@@ -15,6 +19,15 @@ pub enum Fault {
     // The image has no tree.
     #[error(transparent)]
     Tree(#[from] NoTree),
+    // The file is not what a card has.
+    #[error("{0:?}: {1}")]
+    Card(String, NoCard),
+    // A call was refused.
+    #[error("refused: {0}")]
+    Refused(Refusal<StorageFault<Outside>>),
+    // Some block or file of a card was refused.
+    #[error("the card is not sound")]
+    Unsound,
     // A file could not be read or written. Its name is quoted, so that it stays on the line.
     #[error("{0:?}: {1}")]
     File(String, io::Error),
