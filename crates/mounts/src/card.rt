@@ -27,19 +27,25 @@ impl Card {
         Ok(Card { image, root })
     }
 
-    pub fn mount(&self) -> Mount<Sha256, Memory<'_>> {
-        let label = Label {
+    pub fn label(&self) -> Label<'_> {
+        Label {
             digest: Sha256.label_number(),
             data_block: BLOCK as u32,
             hash_block: BLOCK as u32,
             blocks: 1,
             salt: b"",
             root: &self.root,
-        };
-        let memory = Memory {
+        }
+    }
+
+    pub fn memory(&self) -> Memory<'_> {
+        Memory {
             data: &self.image,
             tree: &[],
-        };
-        Mount::new(Sha256, &label, memory)
+        }
+    }
+
+    pub fn mount(&self) -> Mount<Sha256, Memory<'_>> {
+        Mount::new(Sha256, &self.label(), self.memory())
     }
 }

@@ -1,7 +1,7 @@
 // The cases, what is wanted of each, and what comes of it.
 use crate::card::Card;
 use crate::ending::end;
-use crate::volume_bytes::{chain, volume_with};
+use crate::volume_bytes::{SUM, chain, volume_with};
 use calls::Refusal;
 use device::Device;
 use digest::Digest;
@@ -78,9 +78,6 @@ fn read_at<H: Digest, D: Device>(mount: &mut Mount<H, D>, f: usize) -> Outcome {
         Err(refusal) => Outcome::refused(&refusal),
     }
 }
-
-// The word at 12 of the whole volume.
-const SUM: u32 = 0x3bbfb616;
 
 impl Case {
     pub const ALL: [Case; 11] = [

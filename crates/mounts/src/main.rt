@@ -4,10 +4,28 @@
 mod card;
 mod cases;
 mod ending;
+mod using;
 mod volume_bytes;
 
 use anyhow::ensure;
+use card::Card;
 use cases::Case;
+use digest::Sha256;
+use std::str;
+use using::list_first;
+use volume_bytes::{SUM, volume_with};
+
+// The name of the first entry, by a function that is proved to keep the law.
+fn print_first(rt: &HostRuntime) -> anyhow::Result<()> {
+    let card = Card::of(volume_with(SUM))?;
+    let mut name = [0; 128];
+    let _memory = list_first(Sha256, &card.label(), card.memory(), &mut name);
+    println!(rt;
+        "first entry: {}",
+        str::from_utf8(&name)?.trim_end_matches('\0')
+    )?;
+    Ok(())
+}
 
 fn run(rt: &HostRuntime) -> anyhow::Result<()> {
     // every case is run and printed, whatever came of the one before
@@ -18,7 +36,7 @@ fn run(rt: &HostRuntime) -> anyhow::Result<()> {
         println!(rt; "{case}: {outcome}")?;
     }
     ensure!(all, "an answer is not the worked one");
-    Ok(())
+    print_first(rt)
 }
 
 fn main(rt: HostRuntime) -> anyhow::Result<()> {
