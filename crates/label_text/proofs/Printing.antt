@@ -1,9 +1,9 @@
 -- The lines of a printed text, and the one with each key.
-use Rattle.std.proofs.Common.{◌≡◌, ℕ, ◌+◌, ◌*◌, ◌/◌, ◌%◌, ◌<◌, ◌≤◌, ◌==◌, ◌&&◌, ◌||◌, Bool, true, false, not, cond, ltb, List, [], ◌∷◌, ◌++◌, length, take, drop, refl, sym, ap, ◌∙◌, codes, arith, append_assoc, Ok}
-use Rattle.std.specs.List.{concat, filter_map, list_all, slice_split}
+use Rattle.std.proofs.Common.{◌≡◌, ℕ, ◌==◌, ◌||◌, Bool, true, false, not, cond, ltb, List, [], ◌∷◌, ◌++◌, refl, sym, ap, ◌∙◌, codes, arith, append_assoc, Ok}
+use Rattle.std.specs.List.{concat, filter_map, list_all}
 use Rattle.std.proofs.lemmas.Bool.{and_parts}
 use Rattle.std.proofs.lemmas.Bool.Decides.{nat_tests}
-use Rattle.label_text.specs.Key.{front_of, heading_of}
+use Rattle.label_text.specs.Key.{heading_of}
 use Rattle.label_text.specs.Lines.{lines, only, past_blanks, value_in, value_of}
 use Rattle.label_text.specs.Printed.{line}
 use Rattle.label_text.specs.declared.key.Key.{Key}

@@ -1,13 +1,11 @@
 -- A printed label reads as itself.
-use Rattle.std.proofs.Common.{◌≡◌, ℕ, ◌+◌, ◌*◌, ◌/◌, ◌%◌, ◌^◌, ◌<◌, ◌≤◌, ◌==◌, ◌&&◌, Bool, true, false, cond, eqb, ltb, List, [], ◌∷◌, ◌++◌, zero, suc, length, get_or, Option, Some, None, Result, Ok, Err, refl, sym, ap, ◌∙◌, codes, arith, rules}
+use Rattle.std.proofs.Common.{◌≡◌, ℕ, ◌*◌, ◌/◌, ◌%◌, ◌<◌, ◌≤◌, ◌==◌, true, false, List, [], ◌∷◌, zero, suc, length, get_or, Option, Some, None, Ok, refl, ap, ◌∙◌, codes, arith}
 use Rattle.std.specs.Fmt.{decimal, digit_glyph, digits, digits_onto}
-use Rattle.std.specs.List.{flat_map, list_all}
-use Rattle.std.specs.Option.{ok_or}
-use Rattle.std.specs.Str.{bytes_eq}
-use Rattle.std.proofs.lemmas.Bool.{and_parts, and_right, cond-true, cond_both, eq-eqb, ne_eqb}
+use Rattle.std.specs.List.{list_all}
+use Rattle.std.proofs.lemmas.Bool.{and_right, cond-true, cond_both, eq-eqb, ne_eqb}
 use Rattle.std.proofs.lemmas.Bool.Decides.{nat_tests}
 use Rattle.tree.specs.Shape.{tree_blocks}
-use Rattle.text.specs.Hex.{digit_of, hex_of, two_digits, unhex_of}
+use Rattle.text.specs.Hex.{digit_of, hex_of, unhex_of}
 use Rattle.text.specs.Name.{name_of, named}
 use Rattle.text.specs.Number.{number_of}
 use Rattle.text.specs.Sum.{size_of}
@@ -18,11 +16,10 @@ use Rattle.text.proofs.Numbers.{number_of-decimal}
 use Rattle.text.proofs.Pairs.{unhex_of-hex_of}
 use Rattle.geometry.specs.Limits.{within}
 use Rattle.label_text.specs.Label.{Told, label_in, read_by}
-use Rattle.label_text.specs.Laws.{Fits, PrintedReads}
+use Rattle.label_text.specs.Laws.{Fits}
 use Rattle.label_text.specs.Lines.{value_of}
 use Rattle.label_text.specs.Printed.{salt_text, text_of, tree_of}
 use Rattle.label_text.specs.Values.{hash_type_of, root_of, salt_of}
-use Rattle.label_text.specs.declared.fault.Fault.{Fault}
 use Rattle.label_text.specs.declared.key.Key.{Key}
 use Rattle.label_text.specs.declared.key.Key.TheVariants.{HashType, DataBlocks, DataBlockSize, HashBlockSize, HashAlgorithm, Salt, RootHash}
 use Rattle.label_text.proofs.Printing.{AreSolid, Values, is_solid, printed, value_of-printed}

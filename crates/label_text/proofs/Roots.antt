@@ -1,5 +1,5 @@
 -- A root that was read is as long as a digest.
-use Rattle.std.proofs.Common.{◌≡◌, ℕ, ◌*◌, List, length, Option, Some, None, IfSome, sym, ◌∙◌, arith}
+use Rattle.std.proofs.Common.{◌≡◌, ℕ, ◌*◌, List, length, Option, Some, None, IfSome, sym, arith}
 use Rattle.std.specs.Option.{option_map}
 use Rattle.text.specs.Bytes.{bytes_of, unhexed}
 use Rattle.text.specs.declared.bytes.Bytes.{Bytes}

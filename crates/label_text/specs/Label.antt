@@ -1,5 +1,5 @@
 -- The label that a text tells, or the first fault in the order of the keys.
-use Rattle.std.specs.Prelude.{ℕ, ◌==◌, ◌&&◌, if◌then◌else◌, List, length, Option, Some, None, Result, Ok, Err, nat_le}
+use Rattle.std.specs.Prelude.{ℕ, ◌==◌, ◌&&◌, if◌then◌else◌, List, length, Option, Some, None, Result, Ok, nat_le}
 use Rattle.std.specs.Option.{ok_or}
 use Rattle.text.specs.Bytes.{bytes_of}
 use Rattle.text.specs.Name.{named}

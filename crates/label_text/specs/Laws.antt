@@ -1,5 +1,5 @@
 -- What holds of reading and printing, in words of its own.
-use Rattle.std.specs.Prelude.{◌≡◌, ℕ, ◌^◌, ◌<◌, ◌≤◌, List, length, slice_index, Ok}
+use Rattle.std.specs.Prelude.{◌≡◌, ℕ, ◌^◌, ◌<◌, ◌≤◌, length, slice_index, Ok}
 use Rattle.text.specs.Sum.{size_of}
 use Rattle.label_text.specs.Label.{Told, label_in}
 use Rattle.label_text.specs.Printed.{text_of}

@@ -4,10 +4,10 @@ use thiserror::Error;
 
 #[derive(Clone, Copy, PartialEq, Eq, Debug, Error)]
 pub enum Fault {
-    #[error("the label has no line that begins with '{0}'")]
+    #[error("no line of the label begins with '{0}'")]
     Missing(Key),
-    #[error("the label has more than one line that begins with '{0}'")]
+    #[error("more than one line of the label begins with '{0}'")]
     Doubled(Key),
-    #[error("the label's line that begins with '{0}' has no such value")]
+    #[error("the label's line that begins with '{0}' has a malformed value")]
     Malformed(Key),
 }

@@ -102,6 +102,28 @@ fn names_the_line(rt: HostRuntime) -> Result<(), Fail> {
 }
 
 #[test]
+fn tells_the_fault(rt: HostRuntime) -> Result<(), Fail> {
+    let heap = rt.alloc();
+    for (fault, want) in [
+        (
+            Fault::Missing(Key::Salt),
+            "no line of the label begins with 'Salt:'",
+        ),
+        (
+            Fault::Doubled(Key::DataBlocks),
+            "more than one line of the label begins with 'Data blocks:'",
+        ),
+        (
+            Fault::Malformed(Key::RootHash),
+            "the label's line that begins with 'Root hash:' has a malformed value",
+        ),
+    ] {
+        assert_eq!(rt; format!(in heap; "{fault}")?.as_str(), want);
+    }
+    Ok(())
+}
+
+#[test]
 fn reads_up_to_the_limits(rt: HostRuntime) -> Result<(), Fail> {
     let heap = rt.alloc();
     let most = with(heap, Key::DataBlocks, "Data blocks: 4294967295")?;

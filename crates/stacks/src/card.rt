@@ -1,14 +1,12 @@
 // A card that veritysetup made: its files stand in data/.
-use crate::label::Told;
-use digest::Digest;
-use geometry::Label;
+use label_text::LabelText;
 use media::Memory;
 use std::fs;
 
 #[derive(Drop)]
 pub struct Card {
     pub name: &'static str,
-    pub label: Told,
+    pub label: LabelText,
     pub image: Vec<u8>,
     pub tree: Vec<u8>,
 }
@@ -16,10 +14,10 @@ pub struct Card {
 impl Card {
     pub fn read(rt: &HostRuntime, name: &'static str) -> anyhow::Result<Card> {
         let heap = rt.alloc();
-        let text = fs::read_to_string(rt, format!(in heap; "{name}.label")?)?;
+        let text = fs::read(rt, format!(in heap; "{name}.label")?)?;
         Ok(Card {
             name,
-            label: Told::parse(heap, text.as_str())?,
+            label: LabelText::read(text.as_slice())?,
             image: fs::read(rt, format!(in heap; "{name}.image")?)?,
             tree: fs::read(rt, format!(in heap; "{name}.tree")?)?,
         })
@@ -32,18 +30,14 @@ impl Card {
         }
     }
 
-    pub fn label<D: Digest>(&self, digest: &D) -> Label<'_> {
-        self.label.with(digest.label_number())
-    }
-
     // Data block `k`, or nothing where there is none.
     pub fn block(&self, k: usize) -> &[u8] {
-        block_of(self.image.as_slice(), k, self.label.data_block as usize)
+        block_of(self.image.as_slice(), k, self.label.label().data_block as usize)
     }
 
     // Block `k` of the tree, or nothing where there is none.
     pub fn tree_block(&self, k: usize) -> &[u8] {
-        block_of(self.tree.as_slice(), k, self.label.hash_block as usize)
+        block_of(self.tree.as_slice(), k, self.label.label().hash_block as usize)
     }
 }
 

@@ -2,7 +2,6 @@
 #![tactic(auto)]
 
 mod card;
-mod label;
 mod outcome;
 mod read;
 mod tape;
@@ -21,7 +20,7 @@ fn run(rt: &HostRuntime) -> anyhow::Result<()> {
     for name in CARDS {
         let card = Card::read(rt, name)?;
         // a closure cannot be generic over the digest
-        match card.label.function {
+        match card.label.function() {
             Function::Sha256 => read::read_all(rt, Sha256, &card)?,
             Function::Sha512 => read::read_all(rt, Sha512, &card)?,
         }

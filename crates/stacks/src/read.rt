@@ -7,7 +7,7 @@ use digest::Digest;
 use verity::Verity;
 
 pub fn read_all<H: Digest + Drop>(rt: &HostRuntime, digest: H, card: &Card) -> anyhow::Result<()> {
-    let label = card.label(&digest);
+    let label = card.label.label();
     let geometry = label.check(&digest).map_err(|fault| anyhow!("{fault}"))?;
     let mut mount = Cache::new(Verity::new(digest, &label, card.memory()));
     let mut buf = vec![in rt.alloc(); 0u8; geometry.data_block()]?;

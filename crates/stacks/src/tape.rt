@@ -9,8 +9,8 @@ use verity::Verity;
 const PATH: [usize; 3] = [0, 1 + 100 / 64, 6 + 100 / 8];
 
 fn run(rt: &HostRuntime, card: &Card, bytes: &[u8]) -> anyhow::Result<()> {
-    let label = card.label(&Sha512);
-    let mut buf = vec![in rt.alloc(); 0u8; card.label.data_block as usize]?;
+    let label = card.label.label();
+    let mut buf = vec![in rt.alloc(); 0u8; label.data_block as usize]?;
     let mut check = Verity::new(Sha512, &label, Tape::new(bytes));
     let outcome = ask(&mut check, 100, buf.as_mut_slice(), card.block(100));
     let used = check.into_below().used();

@@ -25,8 +25,8 @@ fn turn(rt: &HostRuntime, card: &Card, second: Memory<'_>, what: &str) -> anyhow
         second,
         left: QUESTIONS,
     };
-    let label = card.label(&Sha512);
-    let mut buf = vec![in rt.alloc(); 0u8; card.label.data_block as usize]?;
+    let label = card.label.label();
+    let mut buf = vec![in rt.alloc(); 0u8; label.data_block as usize]?;
     let mut check = Verity::new(Sha512, &label, turning);
     for when in ["first", "then"] {
         let outcome = ask(&mut check, 100, buf.as_mut_slice(), card.block(100));

@@ -1,4 +1,4 @@
-use Rattle.std.proofs.Common.{◌≡◌, ℕ, ◌<◌, ◌≤◌, List, get_or, length, subst, arith}
+use Rattle.std.proofs.Common.{ℕ, ◌<◌, List, get_or, subst, arith}
 use Rattle.std.proofs.lemmas.List.{length-take}
 use Rattle.label_text.specs.Label.{told}
 use Rattle.label_text.proofs.Reading.{printed_reads}

@@ -1,4 +1,4 @@
-use Rattle.std.proofs.Common.{◌≡◌, ◌∙◌, sym}
+use Rattle.std.proofs.Common.{◌∙◌, sym}
 use Rattle.std.proofs.lemmas.List.{take_rest}
 use Rattle.label_text.proofs.Splits.{split_found, split_nowhere}
 use Rattle.label_text.proofs.lines.split_line.Goals as goal

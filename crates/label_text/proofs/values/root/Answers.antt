@@ -1,4 +1,4 @@
-use Rattle.std.proofs.Common.{◌≡◌, ◌∙◌, ap, ◌*◌, arith}
+use Rattle.std.proofs.Common.{◌∙◌, ap, ◌*◌}
 use Rattle.label_text.proofs.Roots.{root_whole}
 use Rattle.label_text.proofs.values.root.Goals as goal
 

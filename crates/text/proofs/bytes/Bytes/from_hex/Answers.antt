@@ -1,6 +1,6 @@
-use Rattle.std.proofs.Common.{◌≡◌, ◌∙◌, sym, arith, rules, ℕ}
+use Rattle.std.proofs.Common.{◌∙◌, sym, arith}
 use Rattle.std.proofs.lemmas.List.{length-drop, length-set, take_more_set, take_rest}
-use Rattle.text.proofs.Limits.{unhexed_long, unhexed_none, unhexed_within}
+use Rattle.text.proofs.Limits.{unhexed_none, unhexed_within}
 use Rattle.text.proofs.Pairs.{ended, odd, paired, two_less, unpaired}
 use Rattle.text.proofs.bytes.Bytes.from_hex.Goals as goal
 

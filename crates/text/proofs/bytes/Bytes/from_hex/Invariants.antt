@@ -1,4 +1,4 @@
-use Rattle.std.proofs.Common.{◌≡◌, ℕ, ◌+◌, ◌*◌, ◌%◌, ◌≤◌, ◌++◌, length, take}
+use Rattle.std.proofs.Common.{◌≡◌, ◌+◌, ◌*◌, ◌%◌, ◌++◌, length, take}
 use Rattle.std.specs.Option.{option_map}
 use Rattle.text.specs.Hex.{unhex_of}
 use Rattle.text.proofs.bytes.Bytes.from_hex.Given as goal
