@@ -3,7 +3,6 @@ use crate::card::Card;
 use crate::expected::Expected;
 use crate::walk::find_all;
 use anyhow::{Context, anyhow, ensure};
-use calls::Refusal;
 use device::Device;
 use digest::Digest;
 use mount::Mount;
@@ -12,13 +11,21 @@ use sha2::{Digest as Hasher, Sha256};
 use std::alloc::Global;
 use std::fmt;
 use text::hex;
-use volume::{Kind, PathFault, PathRule};
+use volume::{Kind, PathRule};
 
 // By the kit's library, which takes a message of any length.
 fn sha256_of(bytes: &[u8]) -> [u8; 32] {
     let mut hasher = Sha256::new();
     hasher.update(bytes);
     hasher.finalize()
+}
+
+// That the path leads to something else than a file.
+fn is_no_file<R>(why: &ContentsFault<R>) -> bool {
+    match why {
+        ContentsFault::Refused(refusal) => refusal.number() == PathRule::NotFile.number(),
+        ContentsFault::Memory => false,
+    }
 }
 
 // The contents of a file; and that everything else is no file.
@@ -33,15 +40,16 @@ where
     let path = expected.path;
     match contents(heap, mount, path.as_bytes()) {
         Ok(bytes) => {
-            ensure!(expected.kind == Kind::File, "a file: {path}");
-            expected.check_length(bytes.len())?;
             let digest = hex(heap, &sha256_of(bytes.as_slice()))?;
-            ensure!(digest.as_str() == expected.digest, "other contents: {path}");
+            ensure!(
+                expected.is_file(bytes.len(), digest.as_str()),
+                "another file: {path}"
+            );
         }
-        Err(ContentsFault::Refused(Refusal::Path(PathFault::Rule(_, PathRule::NotFile)))) => {
-            ensure!(expected.kind != Kind::File, "no file: {path}");
+        Err(why) => {
+            let right = is_no_file(&why) && expected.kind != Kind::File;
+            ensure!(right, "{path}: {why}");
         }
-        Err(why) => return Err(anyhow!("{path}: {why}")),
     }
     Ok(())
 }

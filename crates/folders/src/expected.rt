@@ -11,7 +11,7 @@ pub struct Expected<'a> {
     executable: bool,
     size: u32,
     // Of the contents, if it is a file.
-    pub digest: &'a str,
+    digest: &'a str,
 }
 
 fn kind_of(name: &str) -> anyhow::Result<Kind> {
@@ -61,12 +61,8 @@ impl<'a> Expected<'a> {
         Ok(())
     }
 
-    pub fn check_length(&self, length: usize) -> anyhow::Result<()> {
-        ensure!(
-            length == self.size as usize,
-            "another length: {}",
-            self.path
-        );
-        Ok(())
+    // Whether it is a file of this length, whose contents have this digest.
+    pub fn is_file(&self, length: usize, digest: &str) -> bool {
+        self.kind == Kind::File && length == self.size as usize && digest == self.digest
     }
 }
