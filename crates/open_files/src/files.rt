@@ -1,5 +1,5 @@
 // The files by their numbers.
-ghost use Rattle.std.specs.Prelude.{◌≤◌, vec_len};
+ghost use Rattle.std.specs.Prelude.{◌≡◌, ◌≤◌, length, replicate, vec_len};
 ghost use Rattle.mount.specs.Mount.{held_of};
 
 use crate::own::give_back;
@@ -70,6 +70,14 @@ impl<R: fmt::Display> fmt::Display for FileFault<R> {
     }
 }
 
+// Leaves zeros in the buffer of a call for a file that is not open.
+fn not_open<R>(buf: &mut [u8]) -> FileFault<R>
+    ensures { buf.new ≡ replicate (length buf.old) 0 }
+{
+    buf.fill(0);
+    FileFault::NotOpen
+}
+
 impl<H: Digest + Drop, D: Device> OpenFiles<H, D> {
     pub fn new(heap: Global, mount: Mount<H, D>) -> OpenFiles<H, D> {
         OpenFiles {
@@ -96,8 +104,8 @@ impl<H: Digest + Drop, D: Device> OpenFiles<H, D> {
 }
 
 impl<H: Digest, D: Device> OpenFiles<H, D> {
-    ghost use Rattle.std.specs.Prelude.{◌≡◌, ◌↔◌, ◌<◌, IfOk, IfSome, IsOk, IsSome, vec_len};
-    ghost use Rattle.open_files.specs.Numbers.{IsOpen, place_of};
+    ghost use Rattle.std.specs.Prelude.{◌≡◌, ◌↔◌, ◌+◌, ◌-◌, ◌^◌, ◌<◌, ◌≤◌, IfOk, IfSome, IsOk, IsSome, OnErr, OnOk, length, min, replicate, vec_len};
+    ghost use Rattle.open_files.specs.Numbers.{IsOpen, opened_of, place_of};
 
     pub fn begin(&mut self) -> Result<Start, Refusal<StorageFault<D::Refusal>>> {
         self.mount.begin()
@@ -108,11 +116,18 @@ impl<H: Digest, D: Device> OpenFiles<H, D> {
         path: &[u8],
         index: usize,
         buf: &mut [u8],
-    ) -> Result<Entry, Refusal<StorageFault<D::Refusal>>> {
+    ) -> Result<Entry, Refusal<StorageFault<D::Refusal>>>
+        ensures zeros { OnErr result (buf.new ≡ replicate (length buf.old) 0) }
+    {
         self.mount.list(path, index, buf)
     }
 
-    pub fn open(&mut self, path: &[u8]) -> Result<Opened, OpenFault<D::Refusal>> {
+    // An accepted open is numbered by those before it.
+    pub fn open(&mut self, path: &[u8]) -> Result<Opened, OpenFault<D::Refusal>>
+        ensures number { IfOk result (λ o. o.number ≡ opened_of self.old) }
+        ensures counted { OnOk result (opened_of self.new ≡ min (opened_of self.old + 1) (2 ^ 64 - 1)) }
+        ensures refused { OnErr result (opened_of self.new ≡ opened_of self.old) }
+    {
         let handle = self.mount.open(path).map_err(OpenFault::Refused)?;
         let opened = Opened {
             number: self.opened,
@@ -127,6 +142,7 @@ impl<H: Digest, D: Device> OpenFiles<H, D> {
     // Remembers a file; without memory its handle is given back.
     fn keep(&mut self, number: usize, handle: Handle) -> Result<(), OpenFault<D::Refusal>>
         requires { vec_len self.old.files < held_of self.old.mount }
+        ensures { self.new.opened ≡ self.old.opened }
     {
         match self.files.push(OpenFile { number, handle }) {
             Ok(()) => Ok(()),
@@ -150,10 +166,11 @@ impl<H: Digest, D: Device> OpenFiles<H, D> {
         number: usize,
         from: usize,
         buf: &mut [u8],
-    ) -> Result<usize, FileFault<D::Refusal>> {
+    ) -> Result<usize, FileFault<D::Refusal>>
+        ensures zeros { OnErr result (buf.new ≡ replicate (length buf.old) 0) }
+    {
         let Some(i) = self.find(number) else {
-            buf.fill(0);
-            return Err(FileFault::NotOpen);
+            return Err(not_open(buf));
         };
         self.mount
             .read(&self.files[i].handle, from, buf)
@@ -161,10 +178,11 @@ impl<H: Digest, D: Device> OpenFiles<H, D> {
     }
 
     // Reads a file whole and closes it. Refused, it stays open.
-    pub fn whole(&mut self, number: usize, buf: &mut [u8]) -> Result<(), FileFault<D::Refusal>> {
+    pub fn whole(&mut self, number: usize, buf: &mut [u8]) -> Result<(), FileFault<D::Refusal>>
+        ensures zeros { OnErr result (buf.new ≡ replicate (length buf.old) 0) }
+    {
         let Some(i) = self.find(number) else {
-            buf.fill(0);
-            return Err(FileFault::NotOpen);
+            return Err(not_open(buf));
         };
         let OpenFile { number, handle } = self.files.remove(i);
         match self.mount.whole(handle, buf) {

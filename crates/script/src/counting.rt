@@ -1,5 +1,5 @@
 // A device that counts the questions put to the one below, and passes each on.
-ghost use Rattle.std.specs.Prelude.{◌≡◌};
+ghost use Rattle.std.specs.Prelude.{◌≡◌, ◌+◌, ◌-◌, ◌^◌, min};
 
 use device::{Area, Device};
 
@@ -37,7 +37,8 @@ impl<D: Device> Device for Counting<D> {
 
     ghost meaning = { λ c. D.meaning c.below };
 
-    ghost moves = { λ c q e. D.moves c.below q e.below };
+    // each question is one more, refused ones among them
+    ghost moves = { λ c q e. D.moves c.below q e.below × (e.asked ≡ min (c.asked + 1) (2 ^ 64 - 1)) };
 
     fn ask(&mut self, area: Area, block: u32, buf: &mut [u8]) -> Result<(), D::Refusal> {
         self.asked = self.asked.saturating_add(1);
@@ -46,5 +47,5 @@ impl<D: Device> Device for Counting<D> {
 
     ghost sized = { λ c. D.sized c.below };
 
-    ghost onward = { λ c e q moved. D.onward c.below e.below q moved };
+    ghost onward = { λ c e q moved. D.onward c.below e.below q moved.0 };
 }

@@ -1,5 +1,5 @@
 // The lines that answer a script.
-ghost use Rattle.std.specs.Prelude.{◌≡◌};
+ghost use Rattle.std.specs.Prelude.{◌≡◌, if◌then◌else◌};
 ghost use Rattle.script.specs.Letter.{letter_of};
 
 use crate::call::Name;
@@ -66,7 +66,9 @@ pub fn letter(kind: Kind) -> char
 }
 
 // `x` for what may be executed.
-pub fn executable_letter(executable: bool) -> char {
+pub fn executable_letter(executable: bool) -> char
+    ensures { result ≡ (if executable then 120 else 45) }
+{
     if executable { 'x' } else { '-' }
 }
 

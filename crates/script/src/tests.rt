@@ -8,24 +8,9 @@ use std::test::Fail;
 use volume::{Entry, Kind, PathFault, PathRule, Start, VolumeFault, VolumeRule};
 
 #[test]
-fn lines_that_are_calls(rt: HostRuntime) {
-    let plain = PathWord::Plain;
+fn lines_with_numbers(rt: HostRuntime) {
     for (line, call) in [
         ("begin", Call::Begin),
-        (
-            "open dir/a b",
-            Call::Open {
-                path: plain("dir/a b"),
-            },
-        ),
-        ("open ", Call::Open { path: plain("") }),
-        ("open", Call::Open { path: plain("") }),
-        (
-            "open =2F00",
-            Call::Open {
-                path: PathWord::Hex("2F00"),
-            },
-        ),
         (
             "read 0 18446744073709551615 7",
             Call::Read {
@@ -41,24 +26,33 @@ fn lines_that_are_calls(rt: HostRuntime) {
                 length: 0,
             },
         ),
-        (
-            "list 3 128 dir",
-            Call::List {
-                index: 3,
-                length: 128,
-                path: plain("dir"),
-            },
-        ),
-        (
-            "list 0 127",
-            Call::List {
-                index: 0,
-                length: 127,
-                path: plain(""),
-            },
-        ),
         ("close 4", Call::Close { handle: 4 }),
     ] {
+        assert_eq!(rt; Call::parse(line), Some(call), "{line}");
+    }
+}
+
+#[test]
+fn lines_with_paths(rt: HostRuntime) {
+    let plain = PathWord::Plain;
+    for (line, path) in [
+        ("open dir/a b", plain("dir/a b")),
+        ("open ", plain("")),
+        ("open", plain("")),
+        ("open =2F00", PathWord::Hex("2F00")),
+    ] {
+        assert_eq!(rt; Call::parse(line), Some(Call::Open { path }), "{line}");
+    }
+    for (line, index, length, path) in [
+        ("list 3 128 dir", 3, 128, plain("dir")),
+        ("list 0 127", 0, 127, plain("")),
+        ("list 0 0 =", 0, 0, PathWord::Hex("")),
+    ] {
+        let call = Call::List {
+            index,
+            length,
+            path,
+        };
         assert_eq!(rt; Call::parse(line), Some(call), "{line}");
     }
 }
@@ -152,68 +146,46 @@ fn codes_hold_what_the_refusal_holds(rt: HostRuntime) -> Result<(), Fail> {
 }
 
 #[test]
-fn replies_are_lines(rt: HostRuntime) -> Result<(), Fail> {
-    let refusal = Refusal::<StorageFault<Outside>>::Mount(MountRule::Length);
+fn accepted_replies(rt: HostRuntime) -> Result<(), Fail> {
+    let start = Start { size: 80, root: 32 };
     let entry = Entry {
         kind: Kind::Directory,
         executable: true,
         size: 0,
     };
+    let opened = Reply::Opened {
+        handle: 0,
+        start: 64,
+        size: 3,
+    };
+    let gg = b"gg\0".as_slice();
     for (reply, line) in [
-        (Reply::Begun(Start { size: 80, root: 32 }), "begin ok 80 32"),
-        (
-            Reply::Opened {
-                handle: 0,
-                start: 64,
-                size: 3,
-            },
-            "open ok 0 64 3",
-        ),
-        (
-            Reply::Read {
-                count: 2,
-                buf: b"gg\0".as_slice(),
-            },
-            "read ok 2 676700",
-        ),
-        (
-            Reply::Whole {
-                buf: b"egg".as_slice(),
-            },
-            "whole ok 656767",
-        ),
-        (
-            Reply::Listed {
-                entry,
-                buf: b"ab\0\x7f".as_slice(),
-            },
-            "list ok d x 0 6162007f",
-        ),
+        (Reply::<Outside>::Begun(start), "begin ok 80 32"),
+        (opened, "open ok 0 64 3"),
+        (Reply::Read { count: 2, buf: gg }, "read ok 2 676700"),
+        (Reply::Whole { buf: gg }, "whole ok 676700"),
+        (Reply::Listed { entry, buf: gg }, "list ok d x 0 676700"),
         (Reply::Closed, "close ok"),
+    ] {
+        let found = format!(in rt.alloc(); "{reply}")?;
+        assert_eq!(rt; found.as_str(), line);
+    }
+    Ok(())
+}
+
+#[test]
+fn other_replies(rt: HostRuntime) -> Result<(), Fail> {
+    let refusal = Refusal::<StorageFault<Outside>>::Mount(MountRule::Length);
+    let refused = |call, buf| Reply::Refused { call, refusal, buf };
+    let call = Name::Read;
+    for (reply, line) in [
         (
-            Reply::Refused {
-                call: Name::Whole,
-                refusal,
-                buf: Some(b"\0\0".as_slice()),
-            },
+            refused(Name::Whole, Some(b"\0\0".as_slice())),
             "whole refused 52 buf 0000",
         ),
-        (
-            Reply::Refused {
-                call: Name::Close,
-                refusal,
-                buf: None,
-            },
-            "close refused 52",
-        ),
-        (
-            Reply::NoHandle {
-                call: Name::Read,
-                handle: 3,
-            },
-            "read no handle 3",
-        ),
-        (Reply::NoMemory { call: Name::List }, "list no memory"),
+        (refused(Name::Close, None), "close refused 52"),
+        (Reply::NoHandle { call, handle: 3 }, "read no handle 3"),
+        (Reply::NoMemory { call }, "read no memory"),
         (Reply::Unknown("begin now"), "unknown line: begin now"),
     ] {
         let found = format!(in rt.alloc(); "{reply}")?;
