@@ -32,12 +32,20 @@ impl Card {
 
     // Data block `k`, or nothing where there is none.
     pub fn block(&self, k: usize) -> &[u8] {
-        block_of(self.image.as_slice(), k, self.label.label().data_block as usize)
+        block_of(
+            self.image.as_slice(),
+            k,
+            self.label.label().data_block as usize,
+        )
     }
 
     // Block `k` of the tree, or nothing where there is none.
     pub fn tree_block(&self, k: usize) -> &[u8] {
-        block_of(self.tree.as_slice(), k, self.label.label().hash_block as usize)
+        block_of(
+            self.tree.as_slice(),
+            k,
+            self.label.label().hash_block as usize,
+        )
     }
 }
 
