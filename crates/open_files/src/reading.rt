@@ -1,6 +1,8 @@
 // A whole file, and the entries of a directory.
-ghost use Rattle.std.specs.Prelude.{◌≡◌, ◌<◌, ◌-◌};
-ghost use Rattle.mount.specs.Mount.{held_of};
+ghost use Rattle.std.specs.Prelude.{◌≡◌, ◌<◌, ◌-◌, IfOk};
+ghost use Rattle.reader.specs.Calls.{extent_of};
+ghost use Rattle.mount.specs.Mount.{device_of, held_of, mounted_of};
+ghost use Rattle.open_files.specs.Reading.{GaveWhole, WasRead};
 
 use crate::own::give_back;
 use calls::Refusal;
@@ -36,7 +38,8 @@ fn read_whole<H: Digest, D: Device>(
     handle: Handle,
 ) -> Result<Vec<u8>, ContentsFault<D::Refusal>>
     requires { 0 < held_of mount.old }
-    ensures { held_of mount.new ≡ held_of mount.old - 1 }
+    ensures held { held_of mount.new ≡ held_of mount.old - 1 }
+    ensures whole { IfOk result (λ bytes. GaveWhole D.meaning D.moves (mounted_of mount.old) (device_of mount.old) (extent_of handle) bytes.items (mounted_of mount.new) (device_of mount.new)) }
 {
     let Ok(mut bytes) = vec![in heap; 0u8; handle.size() as usize] else {
         give_back(mount, handle);
@@ -57,7 +60,8 @@ pub fn contents<H: Digest, D: Device>(
     mount: &mut Mount<H, D>,
     path: &[u8],
 ) -> Result<Vec<u8>, ContentsFault<D::Refusal>>
-    ensures { held_of mount.new ≡ held_of mount.old }
+    ensures held { held_of mount.new ≡ held_of mount.old }
+    ensures read { IfOk result (λ bytes. WasRead D.meaning D.moves (mounted_of mount.old) (device_of mount.old) path.now bytes.items (mounted_of mount.new) (device_of mount.new)) }
 {
     let handle = mount.open(path).map_err(ContentsFault::Refused)?;
     read_whole(heap, mount, handle)
