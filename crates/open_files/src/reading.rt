@@ -1,8 +1,9 @@
 // A whole file, and the entries of a directory.
-ghost use Rattle.std.specs.Prelude.{◌≡◌, ◌<◌, ◌-◌, IfOk};
+ghost use Rattle.std.specs.Prelude.{◌≡◌, ◌<◌, ◌-◌, Ok, IfErr, IfNone, IfOk, IfSome, length};
 ghost use Rattle.reader.specs.Calls.{extent_of};
-ghost use Rattle.mount.specs.Mount.{device_of, held_of, mounted_of};
-ghost use Rattle.open_files.specs.Reading.{GaveWhole, WasRead};
+ghost use Rattle.calls.specs.Calls.{list, listed};
+ghost use Rattle.mount.specs.Mount.{Called, device_of, held_of, mounted_of};
+ghost use Rattle.open_files.specs.Reading.{GaveWhole, Refuses, WasRead, missing, name_of};
 
 use crate::own::give_back;
 use calls::Refusal;
@@ -88,7 +89,10 @@ pub fn entry_at<H: Digest, D: Device>(
     path: &[u8],
     index: usize,
 ) -> Result<Option<Listed>, Refusal<StorageFault<D::Refusal>>>
-    ensures { held_of mount.new ≡ held_of mount.old }
+    ensures held { held_of mount.new ≡ held_of mount.old }
+    ensures listed { IfOk result (λ found. IfSome found (λ l. Called D.meaning D.moves (mounted_of mount.old) (device_of mount.old) (list path.now index 128) (record { answer = Ok (listed l.entry); buffer = name_of l }) (mounted_of mount.new) (device_of mount.new))) }
+    ensures last { IfOk result (λ found. IfNone found (Refuses D.meaning D.moves (mounted_of mount.old) (device_of mount.old) (list path.now index 128) (missing (length path.now)) (mounted_of mount.new) (device_of mount.new))) }
+    ensures refused { IfErr result (λ why. Refuses D.meaning D.moves (mounted_of mount.old) (device_of mount.old) (list path.now index 128) why (mounted_of mount.new) (device_of mount.new)) }
 {
     let mut name = [0; 128];
     match mount.list(path, index, &mut name) {
