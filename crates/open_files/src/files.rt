@@ -104,10 +104,15 @@ impl<H: Digest + Drop, D: Device> OpenFiles<H, D> {
 }
 
 impl<H: Digest, D: Device> OpenFiles<H, D> {
-    ghost use Rattle.std.specs.Prelude.{◌≡◌, ◌↔◌, ◌+◌, ◌-◌, ◌^◌, ◌<◌, ◌≤◌, IfOk, IfSome, IsOk, IsSome, OnErr, OnOk, length, min, replicate, vec_len};
+    ghost use Rattle.std.specs.Prelude.{◌≡◌, ◌↔◌, [], Ok, ◌+◌, ◌-◌, ◌^◌, ◌<◌, ◌≤◌, IfOk, IfSome, IsOk, IsSome, OnErr, OnOk, length, min, replicate, vec_len};
+    ghost use Rattle.calls.specs.Calls as calls_of;
+    ghost use Rattle.mount.specs.Mount.{replied};
     ghost use Rattle.open_files.specs.Numbers.{IsOpen, opened_of, place_of};
+    ghost use Rattle.open_files.specs.Steps.{Stepped, SteppedFor};
 
-    pub fn begin(&mut self) -> Result<Start, Refusal<StorageFault<D::Refusal>>> {
+    pub fn begin(&mut self) -> Result<Start, Refusal<StorageFault<D::Refusal>>>
+        ensures step { Stepped D.meaning D.moves self.old calls_of.begin (replied calls_of.started [] result) self.new }
+    {
         self.mount.begin()
     }
 
@@ -117,6 +122,7 @@ impl<H: Digest, D: Device> OpenFiles<H, D> {
         index: usize,
         buf: &mut [u8],
     ) -> Result<Entry, Refusal<StorageFault<D::Refusal>>>
+        ensures step { Stepped D.meaning D.moves self.old (calls_of.list path.now index (length buf.old)) (replied calls_of.listed buf.new result) self.new }
         ensures zeros { OnErr result (buf.new ≡ replicate (length buf.old) 0) }
     {
         self.mount.list(path, index, buf)
@@ -124,6 +130,7 @@ impl<H: Digest, D: Device> OpenFiles<H, D> {
 
     // An accepted open is numbered by those before it.
     pub fn open(&mut self, path: &[u8]) -> Result<Opened, OpenFault<D::Refusal>>
+        ensures step { IfOk result (λ o. Stepped D.meaning D.moves self.old (calls_of.open_file path.now) (record { answer = Ok (calls_of.opened (record { start = o.start; size = o.size })); buffer = [] }) self.new) }
         ensures number { IfOk result (λ o. o.number ≡ opened_of self.old) }
         ensures counted { OnOk result (opened_of self.new ≡ min (opened_of self.old + 1) (2 ^ 64 - 1)) }
         ensures refused { OnErr result (opened_of self.new ≡ opened_of self.old) }
@@ -142,7 +149,8 @@ impl<H: Digest, D: Device> OpenFiles<H, D> {
     // Remembers a file; without memory its handle is given back.
     fn keep(&mut self, number: usize, handle: Handle) -> Result<(), OpenFault<D::Refusal>>
         requires { vec_len self.old.files < held_of self.old.mount }
-        ensures { self.new.opened ≡ self.old.opened }
+        ensures opened { self.new.opened ≡ self.old.opened }
+        ensures kept { OnOk result (self.new.mount ≡ self.old.mount) }
     {
         match self.files.push(OpenFile { number, handle }) {
             Ok(()) => Ok(()),
@@ -167,6 +175,7 @@ impl<H: Digest, D: Device> OpenFiles<H, D> {
         from: usize,
         buf: &mut [u8],
     ) -> Result<usize, FileFault<D::Refusal>>
+        ensures step { IfOk result (λ c. SteppedFor D.meaning D.moves self.old (λ file. calls_of.read file from (length buf.old)) (record { answer = Ok (calls_of.count c); buffer = buf.new }) self.new) }
         ensures zeros { OnErr result (buf.new ≡ replicate (length buf.old) 0) }
     {
         let Some(i) = self.find(number) else {
@@ -179,6 +188,7 @@ impl<H: Digest, D: Device> OpenFiles<H, D> {
 
     // Reads a file whole and closes it. Refused, it stays open.
     pub fn whole(&mut self, number: usize, buf: &mut [u8]) -> Result<(), FileFault<D::Refusal>>
+        ensures step { OnOk result (SteppedFor D.meaning D.moves self.old (λ file. calls_of.whole file (length buf.old)) (record { answer = Ok calls_of.all; buffer = buf.new }) self.new) }
         ensures zeros { OnErr result (buf.new ≡ replicate (length buf.old) 0) }
     {
         let Some(i) = self.find(number) else {
