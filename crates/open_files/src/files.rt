@@ -79,7 +79,16 @@ fn not_open<R>(buf: &mut [u8]) -> FileFault<R>
 }
 
 impl<H: Digest + Drop, D: Device> OpenFiles<H, D> {
-    pub fn new(heap: Global, mount: Mount<H, D>) -> OpenFiles<H, D> {
+    ghost use Rattle.std.specs.Prelude.{◌≡◌, None, ℕ};
+    ghost use Rattle.open_files.specs.Numbers.{mount_of, opened_of};
+    ghost use Rattle.open_files.specs.Steps.{file_of};
+
+    // No file is open at first.
+    pub fn new(heap: Global, mount: Mount<H, D>) -> OpenFiles<H, D>
+        ensures mount { mount_of result ≡ mount }
+        ensures opened { opened_of result ≡ 0 }
+        ensures none { (number : ℕ) → file_of result number ≡ None }
+    {
         OpenFiles {
             mount,
             files: Vec::new(heap),
@@ -175,7 +184,7 @@ impl<H: Digest, D: Device> OpenFiles<H, D> {
         from: usize,
         buf: &mut [u8],
     ) -> Result<usize, FileFault<D::Refusal>>
-        ensures step { IfOk result (λ c. SteppedFor D.meaning D.moves self.old (λ file. calls_of.read file from (length buf.old)) (record { answer = Ok (calls_of.count c); buffer = buf.new }) self.new) }
+        ensures step { IfOk result (λ c. SteppedFor D.meaning D.moves self.old number (λ file. calls_of.read file from (length buf.old)) (record { answer = Ok (calls_of.count c); buffer = buf.new }) self.new) }
         ensures zeros { OnErr result (buf.new ≡ replicate (length buf.old) 0) }
     {
         let Some(i) = self.find(number) else {
@@ -188,7 +197,7 @@ impl<H: Digest, D: Device> OpenFiles<H, D> {
 
     // Reads a file whole and closes it. Refused, it stays open.
     pub fn whole(&mut self, number: usize, buf: &mut [u8]) -> Result<(), FileFault<D::Refusal>>
-        ensures step { OnOk result (SteppedFor D.meaning D.moves self.old (λ file. calls_of.whole file (length buf.old)) (record { answer = Ok calls_of.all; buffer = buf.new }) self.new) }
+        ensures step { OnOk result (SteppedFor D.meaning D.moves self.old number (λ file. calls_of.whole file (length buf.old)) (record { answer = Ok calls_of.all; buffer = buf.new }) self.new) }
         ensures zeros { OnErr result (buf.new ≡ replicate (length buf.old) 0) }
     {
         let Some(i) = self.find(number) else {
