@@ -4,6 +4,7 @@
 mod card;
 mod cases;
 mod ending;
+mod levels;
 mod using;
 mod volume_bytes;
 
@@ -36,6 +37,7 @@ fn run(rt: &HostRuntime) -> anyhow::Result<()> {
         println!(rt; "{case}: {outcome}")?;
     }
     ensure!(all, "an answer is not the worked one");
+    levels::print_all(rt)?;
     print_first(rt)
 }
 

@@ -28,8 +28,8 @@ fn checksum(words: &[u32]) -> u32 {
 }
 
 // The words of a header named `a`.
-fn header(next: u32, info: u32) -> [u32; 8] {
-    let mut words = [next, info, 0, 0, 0x61000000, 0, 0, 0];
+fn header(next: u32, info: u32, size: u32) -> [u32; 8] {
+    let mut words = [next, info, size, 0, 0x61000000, 0, 0, 0];
     words[3] = checksum(&words);
     words
 }
@@ -42,10 +42,19 @@ pub fn chain(links: u8) -> [u8; BLOCK] {
     words[..4].copy_from_slice(&[0x2d726f6d, 0x3166732d, size, 0]);
     for link in 0..links as usize {
         let next = 64 + 32 * link as u32;
-        words[8 + 8 * link..16 + 8 * link].copy_from_slice(&header(next, next));
+        words[8 + 8 * link..16 + 8 * link].copy_from_slice(&header(next, next, 0));
     }
     let last = 8 + 8 * links as usize;
-    words[last..last + 8].copy_from_slice(&header(2, 0));
+    words[last..last + 8].copy_from_slice(&header(2, 0, 0));
+    words[3] = checksum(&words);
+    of_words(&words)
+}
+
+// The front of a volume of this size, which a file `a` of zeros fills.
+pub fn filled_front(size: u32) -> [u8; BLOCK] {
+    let mut words = [0; 16];
+    words[..4].copy_from_slice(&[0x2d726f6d, 0x3166732d, size, 0]);
+    words[8..].copy_from_slice(&header(2, 0, size.saturating_sub(64)));
     words[3] = checksum(&words);
     of_words(&words)
 }
