@@ -8,7 +8,7 @@ use mount::Mount;
 use reader::Handle;
 
 // A close is refused only where no handle is held; whoever calls this proves that one is.
-pub fn end<H: Digest, D: Device>(mount: &mut Mount<H, D>, handle: Handle)
+pub(crate) fn end<H: Digest, D: Device>(mount: &mut Mount<H, D>, handle: Handle)
     requires { 0 < held_of mount.old }
 {
     match mount.close(handle) {
