@@ -3,5 +3,6 @@ pub mod Joins
 pub mod Rows
 pub mod Climb
 pub mod Upper
+pub mod OverDigests
 pub mod Hashing
 pub mod Over

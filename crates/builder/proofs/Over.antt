@@ -16,12 +16,13 @@ use Rattle.tree.proofs.Pieces.{length_pieces}
 use Rattle.tree.proofs.Widths.{power_pos, width_zero}
 use Rattle.builder.specs.declared.fault.BuildFault.TheVariants.{Limit, Length}
 use Rattle.builder.specs.Build.{shape_for, limits_met, lengths_fit, accepts, answer, tree_after, root_after}
-use Rattle.builder.specs.InParts.{AreDigestsOf, digests_of, shape_above, above_limits_met, above_fits, above_answer}
+use Rattle.builder.specs.InParts.{shape_above, above_limits_met, above_fits, above_accepts, above_answer, level_zero, upper, tree_above, root_above, tree_above_after, root_above_after}
 use Rattle.builder.specs.Ready.{Ready}
 use Rattle.builder.specs.Parts.{level_len}
-use Rattle.builder.proofs.Ready.{sound_salted}
+use Rattle.geometry.proofs.Trees.{sound_salted}
 use Rattle.builder.proofs.Rows.{wide_enough, digests_level}
-use Rattle.builder.proofs.Upper.{upper, to_one, start_up, tree_up, root_up}
+use Rattle.builder.proofs.OverDigests.{one_block, more_blocks, without_tree, without_root, with_tree, with_root}
+use Rattle.builder.proofs.Upper.{to_one, start_up}
 
 -- level 0 has no more blocks than the data
 narrower : (s : Shape) → 0 < fanout s → 1 ≤ s.blocks → width s 1 ≤ s.blocks
@@ -38,6 +39,7 @@ pub record Known (meaning : List ℕ → List ℕ) (size d e : ℕ) (digests sal
   pub tree_room : length for_tree ≡ tree_blocks s * s.hash_block
   pub root_room : length for_root ≡ size
   pub accepted : above_answer size d e digests salt for_tree for_root ≡ Ok tt
+  pub passed : above_accepts size d e digests salt for_tree for_root ≡ true
 
 pub known_of : (meaning : List ℕ → List ℕ) (size n d e : ℕ) (digests salt for_tree for_root old_tree old_root : List ℕ) (s : Shape) → ((m : List ℕ) → length (meaning m) ≡ size) → n ≡ size
     → length for_tree ≡ length old_tree → length for_root ≡ length old_root
@@ -61,6 +63,7 @@ known_of meaning size n d e digests salt for_tree for_root old_tree old_root s s
       tree_room = eqb-true (length old_tree) (tree_blocks t * t.hash_block) parts.1;
       root_room = eqb-true (length old_root) t.slot both.1 ∙ is;
       accepted = subst (λ k. above_answer k d e digests salt old_tree old_root ≡ Ok tt) is ok;
+      passed = subst (λ k. above_accepts k d e digests salt old_tree old_root ≡ true) is (and_from (above_limits_met n d e digests salt) (above_fits t digests old_tree old_root) limits fit);
     } in
     subst (Known meaning size d e digests salt old_tree old_root) (sym shaped) all
 
@@ -82,20 +85,9 @@ module _ {meaning : List ℕ → List ℕ} {size d e : ℕ} {digests salt for_tr
             absurd (omega (arith, known.sound.filled, zero_block, known_bounds.hash_low))
       ]
 
-  -- no level: one block
-  pub one_block : levels s ≡ 0 → s.blocks ≡ 1
-  one_block none =
-      let one : fanout s ^ levels s ≡ 1 = ap (λ k. fanout s ^ k) none ∙ pow-zero (fanout s) in
-      omega (arith, (levels_stand_lem (fanout s) s.blocks known.sound.wide).0, known.sound.some)
-
-  pub more_blocks : (levels s ≡ 0 → ⊥) → 2 ≤ s.blocks
-  more_blocks more =
-      let low : 0 < levels s = omega (arith, more) in
-      omega (arith, (levels_stand_lem (fanout s) s.blocks known.sound.wide).1 0 low, pow-zero (fanout s))
-
   -- what one digest gives
   pub one_digest : levels s ≡ 0 → length digests ≡ length for_root
-  one_digest none = known.whole ∙ ap (λ k. k * size) (one_block none) ∙ omega (arith, known.root_room)
+  one_digest none = known.whole ∙ ap (λ k. k * size) (one_block s known.sound.wide known.sound.some none) ∙ omega (arith, known.root_room)
 
   -- what is cut off for level 0
   cut : (levels s ≡ 0 → ⊥) → start s 0 * s.hash_block + width s 1 * s.hash_block ≡ length for_tree
@@ -149,7 +141,7 @@ module _ {meaning : List ℕ → List ℕ} {size d e : ℕ} {digests salt for_tr
     upper_fits =
         let w = width s 1 in
         let t = tree_blocks (upper s) * s.hash_block in
-        let above_is : length above ≡ t = above_len ∙ ap (λ k. k * s.hash_block) (start_up s known.sound.wide (more_blocks more)) in
+        let above_is : length above ≡ t = above_len ∙ ap (λ k. k * s.hash_block) (start_up s known.sound.wide (more_blocks s known.sound.wide more)) in
         and_from ((length row == w * s.hash_block) && length above == t) (length top == s.slot)
         (and_from (length row == w * s.hash_block) (length above == t) (eq-eqb (length row) (w * s.hash_block) row_len) (eq-eqb (length above) t above_is))
         (eq-eqb (length top) s.slot (top_len ∙ slot))
@@ -196,55 +188,33 @@ module _ {meaning : List ℕ → List ℕ} {size d e : ℕ} {digests salt for_tr
         top_len = top_is ∙ known.root_room;
       }
 
-  -- an image with these digests
-  module _ (image : List ℕ) (over : AreDigestsOf h d image digests) where
-    count : length digests / size ≡ length image / d
-    count =
-        let n = length image / d in
-        let long : length digests ≡ n * size = ap length over.2 ∙ length_pieces (λ k. h (block_of d image k)) size (λ k. known.sound.sized (block_of d image k)) n 0 in
-        ap (λ k. k / size) long ∙ mul-div_cancel n some
+  -- what both buffers are to hold, once accepted
+  pub tree_is : (xs : List ℕ) → xs ≡ tree_above h s digests → xs ≡ tree_above_after size meaning d e digests salt for_tree for_root
+  tree_is xs is =
+      is ∙ ap (λ u. tree_above h u digests) known.shaped
+      ∙ sym (cond-true (above_accepts size d e digests salt for_tree for_root) (tree_above h (shape_above size d e digests) digests) (replicate (length for_tree) 0) known.passed)
 
-    same_shape : shape_for size d e image ≡ s
-    same_shape = ap (λ n. shape d e n size) (sym count) ∙ sym known.shaped
+  pub root_is : (xs : List ℕ) → xs ≡ root_above h s digests → xs ≡ root_above_after size meaning d e digests salt for_tree for_root
+  root_is xs is =
+      is ∙ ap (λ u. root_above h u digests) known.shaped
+      ∙ sym (cond-true (above_accepts size d e digests salt for_tree for_root) (root_above h (shape_above size d e digests) digests) (replicate (length for_root) 0) known.passed)
 
-    data_is : d ≡ s.data_block
-    data_is = ap (λ u. u.data_block) same_shape
+  -- no level
+  pub no_tree : levels s ≡ 0 → (buf : List ℕ) → length buf ≡ length for_tree → buf ≡ tree_above h s digests
+  no_tree none buf long =
+      let empty : length for_tree ≡ 0 = known.tree_room ∙ ap (λ k. k * s.hash_block) (sym (blocks_none s none)) ∙ omega arith in
+      nil_from_length buf (omega (arith, long, empty)) ∙ sym (without_tree h s digests none)
 
-    ready : Ready meaning size s image salt
-    ready = record {
-      sound = known.sound;
-      whole = omega (arith, div-add-mod' (length image) d, over.1) ∙ ap₂ (λ x y. x * y) (ap (λ u. u.blocks) same_shape) data_is;
-      short = known.short;
-    }
+  pub one_root : levels s ≡ 0 → digests ≡ root_above h s digests
+  one_root none = sym (without_root h s digests none)
 
-    -- no level
-    pub no_tree : levels s ≡ 0 → (buf : List ℕ) → length buf ≡ length for_tree → buf ≡ tree h (shape_for size d e image) image
-    unfolding tree lowest
-    no_tree none buf long =
-        let empty : length for_tree ≡ 0 = known.tree_room ∙ ap (λ k. k * s.hash_block) (sym (blocks_none s none)) ∙ omega arith in
-        nil_from_length buf (omega (arith, long, empty)) ∙ sym (ap (λ u. tree h u image) same_shape ∙ ap (lowest h s image) none)
+  -- some levels
+  module _ (more : levels s ≡ 0 → ⊥) (row above top : List ℕ) (row_len : length row ≡ width s 1 * s.hash_block) (above_len : length above ≡ start s 0 * s.hash_block) (top_len : length top ≡ size)
+      (full : row ≡ level_zero s digests) where
+    pub whole_tree : tree_after size meaning e e row salt above top ++ row ≡ tree_above h s digests
+    whole_tree =
+        ap (λ xs. xs ++ row) (upper_tree more row above top row_len above_len top_len) ∙ ap (λ xs. tree h (upper s) xs ++ xs) full
+        ∙ sym (with_tree h s digests more)
 
-    pub one_root : levels s ≡ 0 → digests ≡ root h (shape_for size d e image) image
-    unfolding root node
-    one_root none =
-        let one : length image / d ≡ 1 = ap (λ u. u.blocks) same_shape ∙ one_block none in
-        over.2 ∙ ap (λ n. flat_map (λ k. h (block_of d image k)) (range_with_len 0 n)) one ∙ append-nil (h (block_of d image 0)) ∙ ap (λ k. h (block_of k image 0)) data_is
-        ∙ sym (ap (λ u. root h u image) same_shape ∙ ap (λ m. h (node h s image m 0)) none)
-
-    -- some levels
-    pub row_level : (row : List ℕ) {n : ℕ} → n ≡ width s 1 * s.hash_block - length digests → row ≡ digests ++ replicate n 0 → row ≡ level h s image 0
-    row_level row {n = n} n_is row_is =
-        let rest : n ≡ level_len s 0 - s.blocks * size = n_is ∙ ap (λ k. width s 1 * s.hash_block - k) known.whole in
-        row_is ∙ ap₂ (λ xs k. xs ++ replicate k 0) (over.2 ∙ ap (λ k. digests_of h k image) data_is) rest ∙ digests_level ready slot
-
-    module _ (more : levels s ≡ 0 → ⊥) (row above top : List ℕ) (row_len : length row ≡ width s 1 * s.hash_block) (above_len : length above ≡ start s 0 * s.hash_block) (top_len : length top ≡ size)
-        (full : row ≡ level h s image 0) where
-      pub whole_tree : tree_after size meaning e e row salt above top ++ row ≡ tree h (shape_for size d e image) image
-      whole_tree =
-          ap (λ xs. xs ++ row) (upper_tree more row above top row_len above_len top_len) ∙ ap (λ xs. tree h (upper s) xs ++ xs) full
-          ∙ sym (tree_up h s size known.sound image (more_blocks more)) ∙ ap (λ u. tree h u image) (sym same_shape)
-
-      pub whole_root : root_after size meaning e e row salt above top ≡ root h (shape_for size d e image) image
-      whole_root =
-          upper_root more row above top row_len above_len top_len ∙ ap (root h (upper s)) full
-          ∙ sym (root_up h s size known.sound image (more_blocks more)) ∙ ap (λ u. root h u image) (sym same_shape)
+    pub whole_root : root_after size meaning e e row salt above top ≡ root_above h s digests
+    whole_root = upper_root more row above top row_len above_len top_len ∙ ap (root h (upper s)) full ∙ sym (with_root h s digests more)

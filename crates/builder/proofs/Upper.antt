@@ -4,7 +4,6 @@ use native.Mathlib.Nat.{pow-zero}
 use Rattle.std.specs.List.{range_with_len, flat_map}
 use Rattle.std.proofs.lemmas.List.{append_assoc, append-nil}
 use Rattle.std.proofs.lemmas.Bool.{cond-true, cond-false, lt-ltb, le-ltb, cases_lt}
-use Rattle.geometry.specs.Limits.{shape}
 use Rattle.geometry.proofs.Counting.{least_is}
 use Rattle.tree.specs.Shape.{Shape, fanout, levels, width, blocks_from, tree_blocks, start}
 use Rattle.tree.specs.Tree.{block_of, in_slot, node, level, lowest, tree, root}
@@ -12,11 +11,8 @@ use Rattle.tree.specs.Laws.{Sound}
 use Rattle.tree.proofs.Levels.{levels_stand_lem}
 use Rattle.tree.proofs.Places.{in_level}
 use Rattle.tree.proofs.Widths.{in_width, under_width, width_top}
+use Rattle.builder.specs.InParts.{upper}
 use Rattle.builder.proofs.Joins.{joined_same}
-
--- the shape of the tree over level 0
-abbrev pub upper : Shape → Shape
-upper s = shape s.hash_block s.hash_block (width s 1) s.slot
 
 module _ (s : Shape) (wide : 2 ≤ fanout s) where
   positive : 0 < fanout s

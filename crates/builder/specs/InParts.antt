@@ -1,9 +1,10 @@
 -- Building in parts: the salted digests of the data blocks first, and the tree over them after.
-use Rattle.std.specs.Prelude.{◌≡◌, ℕ, ◌*◌, ◌/◌, ◌%◌, ◌<◌, Bool, cond, ◌&&◌, List, ◌++◌, length, replicate, Ok, Err, Result, ◌==◌, nat_le}
+use Rattle.std.specs.Prelude.{◌≡◌, ℕ, ◌-◌, ◌*◌, ◌/◌, ◌%◌, ◌<◌, Bool, cond, ◌&&◌, List, [], ◌++◌, length, replicate, Ok, Err, Result, ◌==◌, nat_le}
 use Rattle.std.specs.List.{range_with_len, flat_map}
 use Rattle.geometry.specs.Limits.{shape, within}
-use Rattle.tree.specs.Shape.{Shape, tree_blocks}
-use Rattle.tree.specs.Tree.{block_of, salted}
+use Rattle.tree.specs.Shape.{Shape, levels, width, tree_blocks}
+use Rattle.tree.specs.Tree.{block_of, salted, tree, root}
+use Rattle.tree.specs.Laws.{Sound}
 use Rattle.builder.specs.declared.fault.BuildFault.{BuildFault}
 use Rattle.builder.specs.declared.fault.BuildFault.TheVariants.{Limit, Length}
 use Rattle.builder.specs.Build.{shape_for, limits_met}
@@ -11,10 +12,6 @@ use Rattle.builder.specs.Build.{shape_for, limits_met}
 -- the salted digests of an image's whole blocks of d bytes, in order
 abbrev pub digests_of : (List ℕ → List ℕ) → ℕ → List ℕ → List ℕ
 digests_of h d image = flat_map (λ k. h (block_of d image k)) (range_with_len 0 (length image / d))
-
--- those of an image of whole blocks
-abbrev pub AreDigestsOf : (List ℕ → List ℕ) → ℕ → List ℕ → List ℕ → Type 0
-AreDigestsOf h d image digests = (0 < d) × (length image % d ≡ 0) × (digests ≡ digests_of h d image)
 
 -- the digests of two images of whole blocks, joined, are those of the images, joined
 abbrev pub PartsStand : Type 0
@@ -49,3 +46,38 @@ above_fits s digests for_tree for_root =
 abbrev pub above_answer : ℕ → ℕ → ℕ → List ℕ → List ℕ → List ℕ → List ℕ → Result (Unit {0}) BuildFault
 above_answer size d e digests salt for_tree for_root =
     cond (above_limits_met size d e digests salt) (cond (above_fits (shape_above size d e digests) digests for_tree for_root) (Ok tt) (Err Length)) (Err Limit)
+
+-- nothing is refused
+abbrev pub above_accepts : ℕ → ℕ → ℕ → List ℕ → List ℕ → List ℕ → List ℕ → Bool
+above_accepts size d e digests salt for_tree for_root = above_limits_met size d e digests salt && above_fits (shape_above size d e digests) digests for_tree for_root
+
+-- level 0 over data blocks of these digests: the digests, and zeros behind them to whole tree blocks
+abbrev pub level_zero : Shape → List ℕ → List ℕ
+level_zero s digests = digests ++ replicate (width s 1 * s.hash_block - length digests) 0
+
+-- the shape of the levels above level 0, of which the blocks of level 0 are the data
+abbrev pub upper : Shape → Shape
+upper s = shape s.hash_block s.hash_block (width s 1) s.slot
+
+-- the tree over data blocks of these digests: without a level nothing, and else the tree over level 0, and level 0 behind it
+unfoldable pub tree_above : (List ℕ → List ℕ) → Shape → List ℕ → List ℕ
+tree_above h s digests = cond (levels s == 0) [] (tree h (upper s) (level_zero s digests) ++ level_zero s digests)
+
+-- its root: without a level the one digest, and else that of the tree over level 0
+unfoldable pub root_above : (List ℕ → List ℕ) → Shape → List ℕ → List ℕ
+root_above h s digests = cond (levels s == 0) digests (root h (upper s) (level_zero s digests))
+
+-- what the buffers hold after `build_above`: the tree and the root over the digests, or zeros
+abbrev pub tree_above_after : ℕ → (List ℕ → List ℕ) → ℕ → ℕ → List ℕ → List ℕ → List ℕ → List ℕ → List ℕ
+tree_above_after size meaning d e digests salt for_tree for_root =
+    cond (above_accepts size d e digests salt for_tree for_root) (tree_above (salted meaning salt) (shape_above size d e digests) digests) (replicate (length for_tree) 0)
+
+abbrev pub root_above_after : ℕ → (List ℕ → List ℕ) → ℕ → ℕ → List ℕ → List ℕ → List ℕ → List ℕ → List ℕ
+root_above_after size meaning d e digests salt for_tree for_root =
+    cond (above_accepts size d e digests salt for_tree for_root) (root_above (salted meaning salt) (shape_above size d e digests) digests) (replicate (length for_root) 0)
+
+-- over the digests of an image's blocks they are the tree and the root of the image, where a slot is as long as a digest
+abbrev pub AboveStands : Type 0
+AboveStands =
+    (h : List ℕ → List ℕ) (s : Shape) (size : ℕ) → Sound h s size → size ≡ s.slot → (image : List ℕ) → length image ≡ s.blocks * s.data_block
+    → (tree_above h s (digests_of h s.data_block image) ≡ tree h s image) × (root_above h s (digests_of h s.data_block image) ≡ root h s image)

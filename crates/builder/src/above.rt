@@ -1,10 +1,8 @@
 // The tree over the digests of data blocks: the limits first, then the lengths.
-ghost use Rattle.std.specs.Prelude.{◌≡◌, ◌≤◌, ◌-◌, ◌++◌, List, ℕ, OnOk, OnErr, length, replicate};
+ghost use Rattle.std.specs.Prelude.{◌≡◌, ◌≤◌, ◌-◌, ◌++◌, length, replicate};
 ghost use Rattle.builder.specs.BaseCheck.{BaseChecked, BaseLimited};
-ghost use Rattle.builder.specs.Build.{shape_for};
-ghost use Rattle.builder.specs.InParts.{AreDigestsOf, above_answer, above_fits};
+ghost use Rattle.builder.specs.InParts.{AboveStands, above_answer, above_fits, root_above_after, tree_above_after};
 ghost use Rattle.geometry.specs.Of.{shape_of};
-ghost use Rattle.tree.specs.Tree.{salted, tree as tree_of, root as root_of};
 
 use crate::base::Base;
 use crate::fault::BuildFault;
@@ -55,8 +53,11 @@ fn put_digests(digests: &[u8], level: &mut [u8])
     level[..digests.len()].copy_from_slice(digests);
 }
 
-// Writes the tree over data blocks of these digests, and its root. Refused, it leaves both buffers all zeros.
-// Level 0 is the digests, with zeros behind them, and the levels above it are the tree over level 0.
+/// Writes the tree over data blocks of these salted digests, as a dm-verity tree of format 1 lays it down, and its root.
+///
+/// Level 0 is the digests, with zeros behind them, and the levels above it are the tree over level 0. Refused, it leaves both
+/// buffers all zeros: 2 for a block size, a number of blocks or a salt outside its limit, then 3 for digests that are not whole
+/// or a buffer that has not the length of what goes into it.
 pub fn build_above<D: Digest>(
     digest: &D,
     base: &Base<'_>,
@@ -64,9 +65,8 @@ pub fn build_above<D: Digest>(
     root: &mut [u8],
 ) -> Result<(), BuildFault>
     ensures answer { result ≡ above_answer D.LEN base.now.data_block base.now.hash_block base.now.digests.now base.now.salt.now tree.old root.old }
-    ensures zeros { OnErr result ((tree.new ≡ replicate (length tree.old) 0) × (root.new ≡ replicate (length root.old) 0)) }
-    ensures tree { (image : List ℕ) → AreDigestsOf (salted D.meaning base.now.salt.now) base.now.data_block image base.now.digests.now → OnOk result (tree.new ≡ tree_of (salted D.meaning base.now.salt.now) (shape_for D.LEN base.now.data_block base.now.hash_block image) image) }
-    ensures root { (image : List ℕ) → AreDigestsOf (salted D.meaning base.now.salt.now) base.now.data_block image base.now.digests.now → OnOk result (root.new ≡ root_of (salted D.meaning base.now.salt.now) (shape_for D.LEN base.now.data_block base.now.hash_block image) image) }
+    ensures tree { tree.new ≡ tree_above_after D.LEN D.meaning base.now.data_block base.now.hash_block base.now.digests.now base.now.salt.now tree.old root.old }
+    ensures root { root.new ≡ root_above_after D.LEN D.meaning base.now.data_block base.now.hash_block base.now.digests.now base.now.salt.now tree.old root.old }
 {
     tree.fill(0);
     root.fill(0);
@@ -87,3 +87,8 @@ pub fn build_above<D: Digest>(
     };
     build(digest, &source, above, root)
 }
+
+/// The tree and the root over the digests of an image's blocks are those of the image.
+pub fn above_stands()
+    ensures { AboveStands }
+{}

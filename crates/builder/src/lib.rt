@@ -11,7 +11,7 @@ mod job;
 mod make;
 mod source;
 
-pub use above::build_above;
+pub use above::{above_stands, build_above};
 pub use base::Base;
 pub use fault::BuildFault;
 pub use hash::{hash_blocks, parts_stand};

@@ -1,3 +1,4 @@
 pub mod Stacking
 pub mod Stepping
 pub mod Laws
+pub mod Premises

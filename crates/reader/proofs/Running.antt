@@ -97,6 +97,10 @@ pub err-is : {T E : Type 0} (r : Result T E) (e : E) → IsErr r × IsErrAnd r (
 err-is (Ok x) e both = absurd (false≢true both.0)
 err-is (Err x) e both = ap (λ y. Err y) both.1
 
+-- what an `Err` holds
+pub err-inner : {T E : Type 0} (a b : E) → ◌≡◌ {A = Result T E} (Err a) (Err b) → a ≡ b
+err-inner a b is = cc
+
 -- bytes that are fetched and then read
 module _ {S F X : Type 0} (meaning : S → Meaning F) (moves : S → Question → S → Type 0) (d from n : ℕ) (parse : List ℕ → Result X (VolumeFault F)) (s t : S) where
   pub ran-parsed : (bytes : List ℕ) (r : Result X (VolumeFault F)) → Ran meaning moves s (by_blocks d (bytes_at from n)) (Ok bytes) t → r ≡ parse bytes

@@ -9,12 +9,11 @@ ghost use Rattle.calls.specs.Mount.{image_length};
 ghost use Rattle.reader.specs.Calls.{fetched};
 ghost use Rattle.reader.specs.Header.{header_value};
 
-use crate::fetch::fetch;
+use crate::fetch::fetch_at;
 use crate::header::Header;
 use calls::Refusal;
 use device::Device;
 use geometry::Geometry;
-use volume::VolumeFault;
 
 // Bytes of a data block.
 pub(crate) fn block_size(geometry: &Geometry) -> usize
@@ -49,9 +48,9 @@ pub(crate) fn read_bytes<D: Device>(
     ensures run { Ran D.meaning D.moves store.old (by_blocks (shape_of geometry.now).data_block (bytes_of from (length buf.old))) (fetched result buf.new) store.new }
     ensures zeros { OnErr result (buf.new ≡ replicate (length buf.old) 0) }
 {
-    match fetch(store, block_size(geometry), from, buf) {
+    match fetch_at(store, block_size(geometry), from, buf) {
         Ok(()) => Ok(()),
-        Err(fault) => Err(Refusal::Volume(VolumeFault::Storage(from, fault))),
+        Err(fault) => Err(Refusal::Volume(fault)),
     }
 }
 

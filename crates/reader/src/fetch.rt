@@ -78,6 +78,6 @@ pub(crate) fn fetch_at<D: Device>(
 {
     match fetch(store, data_block, from, buf) {
         Ok(()) => Ok(()),
-        Err(fault) => Err(VolumeFault::from((fault, from))),
+        Err(fault) => Err((fault, from))?,
     }
 }

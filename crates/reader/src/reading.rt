@@ -173,6 +173,6 @@ pub(crate) fn header_for<D: Device>(
 {
     match read_header(store, data_block, start, at) {
         Ok(header) => Ok(header),
-        Err(fault) => Err(PathFault::from((fault, place))),
+        Err(fault) => Err((fault, place))?,
     }
 }

@@ -17,7 +17,7 @@ use volume::{Kind, PathFault, PathRule, Start, VolumeFault, VolumeRule};
 fn broken<F>(place: usize, header: &Header, rule: VolumeRule) -> PathFault<F>
     ensures { result ≡ broken_rule place (header_value header.now) rule }
 {
-    PathFault::Volume(place, VolumeFault::Rule(header.at, rule))
+    PathFault::from((VolumeFault::Rule(header.at, rule), place))
 }
 
 // Where a directory's list begins.

@@ -2,7 +2,8 @@ use Rattle.std.proofs.Common.{rules, ◌≡◌, ◌-◌, ◌*◌, ◌++◌, leng
 use Rattle.std.proofs.lemmas.List.{drop-replicate}
 use Rattle.geometry.specs.Of.{shape_of}
 use Rattle.tree.specs.Shape.{levels}
-use Rattle.builder.proofs.Over.{known_of, one_digest, no_tree, one_root, cut_inside, cut_rest, cut_of, digests_room, upper_accepted, row_level, whole_tree, whole_root}
+use Rattle.builder.specs.InParts.{level_zero}
+use Rattle.builder.proofs.Over.{known_of, one_digest, tree_is, root_is, no_tree, one_root, cut_inside, cut_rest, cut_of, digests_room, upper_accepted, whole_tree, whole_root}
 use Rattle.builder.proofs.above.build_above.Goals as goal
 
 pub copy_from_slice-requires : goal.copy_from_slice-requires
@@ -12,16 +13,16 @@ copy_from_slice-requires g c =
     c.fill-2.ensures.len ∙ sym (one_digest known (sym c.levels.ensures ∙ c.if-levels-eq0.true))
 
 pub returns-then-levels-eq0-clause-tree : goal.returns-then-levels-eq0-clause-tree
-returns-then-levels-eq0-clause-tree g c image over =
+returns-then-levels-eq0-clause-tree g c =
     let known = known_of g.D.Digest.meaning g.D.Digest.LEN _ _ _ _ _ _ _ c.args.tree.now c.args.root.now _ g.met.D.Digest.lengths c.output_len.ensures c.fill.ensures.len c.fill-2.ensures.len
     c.in_ok-geometry.ensures.0 c.in_ok-geometry.ensures.1 c.in_ok-geometry.ensures.2 in
-    no_tree known image over (sym c.levels.ensures ∙ c.if-levels-eq0.true) c.fill.new.self c.fill.ensures.len
+    tree_is known c.fill.new.self (no_tree known (sym c.levels.ensures ∙ c.if-levels-eq0.true) c.fill.new.self c.fill.ensures.len)
 
 pub returns-then-levels-eq0-clause-root : goal.returns-then-levels-eq0-clause-root
-returns-then-levels-eq0-clause-root g c image over =
+returns-then-levels-eq0-clause-root g c =
     let known = known_of g.D.Digest.meaning g.D.Digest.LEN _ _ _ _ _ _ _ c.args.tree.now c.args.root.now _ g.met.D.Digest.lengths c.output_len.ensures c.fill.ensures.len c.fill-2.ensures.len
     c.in_ok-geometry.ensures.0 c.in_ok-geometry.ensures.1 c.in_ok-geometry.ensures.2 in
-    c.copy_from_slice.ensures.after ∙ one_root known image over (sym c.levels.ensures ∙ c.if-levels-eq0.true)
+    root_is known c.copy_from_slice.new.self (c.copy_from_slice.ensures.after ∙ one_root known (sym c.levels.ensures ∙ c.if-levels-eq0.true))
 
 pub overflow_mul-start : goal.overflow_mul-start
 overflow_mul-start g c =
@@ -64,22 +65,8 @@ returns-clause-answer g c =
     (omega (arith, split.ensures.back_len)) c.put_digests.ensures c.fill-2.ensures.len in
     c.build.ensures.answer ∙ upper_accepted known more row above top cut.row_len cut.above_len cut.top_len ∙ sym known.accepted
 
-pub returns-clause-zeros : goal.returns-clause-zeros
-returns-clause-zeros g c =
-    let known = known_of g.D.Digest.meaning g.D.Digest.LEN _ _ _ _ _ _ _ c.args.tree.now c.args.root.now _ g.met.D.Digest.lengths c.output_len.ensures c.fill.ensures.len c.fill-2.ensures.len
-    c.in_ok-geometry.ensures.0 c.in_ok-geometry.ensures.1 c.in_ok-geometry.ensures.2 in
-    let more : levels (shape_of c.in_ok-geometry.geometry) ≡ 0 → ⊥ = λ none. c.if-levels-eq0.false (c.levels.ensures ∙ none) in
-    let split = c.split_at_mut-above in
-    let row = c.put_digests.new.level in
-    let above = split.result.0.now in
-    let top = c.fill-2.new.self in
-    let cut = cut_of known more c.start.ensures c.hash_block.ensures c.fill.new.self above split.result.1.now row top c.fill.ensures.len split.ensures.front_len
-    (omega (arith, split.ensures.back_len)) c.put_digests.ensures c.fill-2.ensures.len in
-    let done = c.build.ensures.answer ∙ upper_accepted known more row above top cut.row_len cut.above_len cut.top_len in
-    rw done tt
-
 pub returns-clause-tree : goal.returns-clause-tree
-returns-clause-tree g c image over =
+returns-clause-tree g c =
     let known = known_of g.D.Digest.meaning g.D.Digest.LEN _ _ _ _ _ _ _ c.args.tree.now c.args.root.now _ g.met.D.Digest.lengths c.output_len.ensures c.fill.ensures.len c.fill-2.ensures.len
     c.in_ok-geometry.ensures.0 c.in_ok-geometry.ensures.1 c.in_ok-geometry.ensures.2 in
     let more : levels (shape_of c.in_ok-geometry.geometry) ≡ 0 → ⊥ = λ none. c.if-levels-eq0.false (c.levels.ensures ∙ none) in
@@ -89,12 +76,12 @@ returns-clause-tree g c image over =
     let top = c.fill-2.new.self in
     let cut = cut_of known more c.start.ensures c.hash_block.ensures c.fill.new.self above split.result.1.now row top c.fill.ensures.len split.ensures.front_len
     (omega (arith, split.ensures.back_len)) c.put_digests.ensures c.fill-2.ensures.len in
-    let done = c.build.ensures.answer ∙ upper_accepted known more row above top cut.row_len cut.above_len cut.top_len in
-    let full = row_level known image over row (ap (λ k. k - length c.args.base.now.digests.now) (cut_rest known more {n = length split.result.1.now} c.start.ensures c.hash_block.ensures (omega (arith, split.ensures.back_len, c.fill.ensures.len)))) c.put_digests.ensures in
-    rw done (ap (λ xs. xs ++ row) c.build.ensures.tree ∙ whole_tree known image over more row above top cut.row_len cut.above_len cut.top_len full)
+    let digests = c.args.base.now.digests.now in
+    let full : row ≡ level_zero (shape_of c.in_ok-geometry.geometry) digests = c.put_digests.ensures ∙ ap (λ n. digests ++ replicate n 0) (ap (λ k. k - length digests) (cut_rest known more {n = length split.result.1.now} c.start.ensures c.hash_block.ensures (omega (arith, split.ensures.back_len, c.fill.ensures.len)))) in
+    tree_is known (c.build.new.tree ++ row) (ap (λ xs. xs ++ row) c.build.ensures.tree ∙ whole_tree known more row above top cut.row_len cut.above_len cut.top_len full)
 
 pub returns-clause-root : goal.returns-clause-root
-returns-clause-root g c image over =
+returns-clause-root g c =
     let known = known_of g.D.Digest.meaning g.D.Digest.LEN _ _ _ _ _ _ _ c.args.tree.now c.args.root.now _ g.met.D.Digest.lengths c.output_len.ensures c.fill.ensures.len c.fill-2.ensures.len
     c.in_ok-geometry.ensures.0 c.in_ok-geometry.ensures.1 c.in_ok-geometry.ensures.2 in
     let more : levels (shape_of c.in_ok-geometry.geometry) ≡ 0 → ⊥ = λ none. c.if-levels-eq0.false (c.levels.ensures ∙ none) in
@@ -104,6 +91,6 @@ returns-clause-root g c image over =
     let top = c.fill-2.new.self in
     let cut = cut_of known more c.start.ensures c.hash_block.ensures c.fill.new.self above split.result.1.now row top c.fill.ensures.len split.ensures.front_len
     (omega (arith, split.ensures.back_len)) c.put_digests.ensures c.fill-2.ensures.len in
-    let done = c.build.ensures.answer ∙ upper_accepted known more row above top cut.row_len cut.above_len cut.top_len in
-    let full = row_level known image over row (ap (λ k. k - length c.args.base.now.digests.now) (cut_rest known more {n = length split.result.1.now} c.start.ensures c.hash_block.ensures (omega (arith, split.ensures.back_len, c.fill.ensures.len)))) c.put_digests.ensures in
-    rw done (c.build.ensures.root ∙ whole_root known image over more row above top cut.row_len cut.above_len cut.top_len full)
+    let digests = c.args.base.now.digests.now in
+    let full : row ≡ level_zero (shape_of c.in_ok-geometry.geometry) digests = c.put_digests.ensures ∙ ap (λ n. digests ++ replicate n 0) (ap (λ k. k - length digests) (cut_rest known more {n = length split.result.1.now} c.start.ensures c.hash_block.ensures (omega (arith, split.ensures.back_len, c.fill.ensures.len)))) in
+    root_is known c.build.new.root (c.build.ensures.root ∙ whole_root known more row above top cut.row_len cut.above_len cut.top_len full)

@@ -1,0 +1,5 @@
+use Rattle.builder.proofs.OverDigests.{above_stands_lem}
+use Rattle.builder.proofs.above.above_stands.Goals as goal
+
+pub returns : goal.returns
+returns c = above_stands_lem
