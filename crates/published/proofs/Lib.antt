@@ -1,0 +1,4 @@
+pub mod Twins
+pub mod Within
+pub mod Images
+pub mod Worth

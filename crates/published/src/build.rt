@@ -1,0 +1,69 @@
+// Building an image, its label, and a mount by it.
+use crate::published::Published;
+use builder::{BuildFault, Source, build};
+use device::Device;
+use digest::Digest;
+use geometry::Label;
+use mount::Mount;
+
+impl<'a, H: Digest + Copy> Published<'a, H> {
+    ghost use Rattle.std.specs.Prelude.{◌≡◌, Ok, Err, Some, IfOk, MatchResult, replicate};
+    ghost use Rattle.builder.specs.Build.{answer as answer_of, tree_after};
+    ghost use Rattle.tree.specs.Tree.{root as root_of, salted};
+    ghost use Rattle.layers.specs.Publisher.{anchor_of};
+    ghost use Rattle.calls.specs.Mount.{made};
+    ghost use Rattle.mount.specs.Law.{IsLabelOf, LawFrom};
+    ghost use Rattle.mount.specs.Mount.{device_of, mounted_of};
+    ghost use Rattle.published.specs.Publisher.{publisher_of, publisher_over, source_of};
+
+    /// Writes the dm-verity tree (format 1) of an image into `tree`, and keeps its root digest. It is refused as `build` is:
+    /// 2 for a block size, a number of blocks or a salt outside its limit, then 3 for an image that is not whole blocks or a
+    /// buffer that has not the tree's length. Refused, the buffer is all zeros.
+    pub fn build(
+        digest: H,
+        source: &Source<'a>,
+        tree: &mut [u8],
+    ) -> Result<Published<'a, H>, BuildFault>
+        ensures answer { MatchResult result (λ p. answer_of H.LEN source.now.data_block source.now.hash_block source.now.image.now source.now.salt.now tree.old (replicate H.LEN 0) ≡ Ok tt) (λ fault. answer_of H.LEN source.now.data_block source.now.hash_block source.now.image.now source.now.salt.now tree.old (replicate H.LEN 0) ≡ Err fault) }
+        ensures tree { tree.new ≡ tree_after H.LEN H.meaning source.now.data_block source.now.hash_block source.now.image.now source.now.salt.now tree.old (replicate H.LEN 0) }
+        ensures publisher { IfOk result (λ p. publisher_of p ≡ publisher_over H.LEN H.meaning source.now) }
+    {
+        let size = digest.output_len();
+        let mut root = [0; 64];
+        build(&digest, source, tree, &mut root[..size])?;
+        let geometry = source.geometry(size).ok_or(BuildFault::Limit)?;
+        Ok(Published {
+            digest,
+            source: *source,
+            geometry,
+            root,
+        })
+    }
+
+    /// The label of the image: the digest's number, the sizes, the number of blocks, the salt, and the root. It is good, and the
+    /// publisher's.
+    pub fn label(&self) -> Label<'_>
+        ensures publishers { IsLabelOf H.NUMBER H.LEN H.meaning (publisher_of self.now) result }
+        ensures digest { result.digest ≡ H.NUMBER }
+        ensures salt { result.salt.now ≡ (source_of self.now).salt.now }
+        ensures root { result.root.now ≡ root_of (salted H.meaning (source_of self.now).salt.now) (publisher_of self.now).shape (publisher_of self.now).image }
+    {
+        Label {
+            digest: self.digest.label_number(),
+            data_block: self.geometry.data_block() as u32,
+            hash_block: self.geometry.hash_block() as u32,
+            blocks: self.geometry.blocks() as u32,
+            salt: self.source.salt,
+            root: &self.root[..self.digest.output_len()],
+        }
+    }
+
+    /// A mount of a device by this label. Every use of it keeps the law of runs, with this image as the publisher's.
+    pub fn mount<D: Device>(&self, device: D) -> Mount<H, D>
+        ensures device { device_of result ≡ device }
+        ensures made { mounted_of result ≡ made (Some (anchor_of (publisher_of self.now))) }
+        ensures law { LawFrom D.meaning D.moves (publisher_of self.now) (mounted_of result) (device_of result) }
+    {
+        Mount::new(self.digest, &self.label(), device)
+    }
+}
