@@ -8,23 +8,39 @@ mod reading;
 use anyhow::anyhow;
 use digest::Sha256;
 use kitchen::Kitchen;
-use media::Turning;
-use mount::Mount;
+use media::{Memory, Turning};
 use open_files::OpenFiles;
+use published::Published;
+use reading::TABLE;
 use script::Counting;
 
 // So many questions the card answers by its own pages: those until noon. Then it answers by the older ones.
 const SOUND: u64 = 26;
 
+// A file is read from the new card before it leaves the publisher, by a call that begins, opens, reads and closes.
+fn proof_read(
+    rt: &HostRuntime,
+    published: &Published<'_, Sha256>,
+    card: Memory<'_>,
+) -> anyhow::Result<()> {
+    let mut buf = vec![in rt.alloc(); 0u8; 4096]?;
+    let (_card, answer) = published.read(card, TABLE.as_bytes(), 0, buf.as_mut_slice());
+    let count = answer.map_err(|refusal| anyhow!("{TABLE}: {refusal}"))?;
+    println!(rt; "read from the new card: {count} bytes of {TABLE}")?;
+    Ok(())
+}
+
 fn run(rt: &HostRuntime) -> anyhow::Result<()> {
     let kitchen = Kitchen::read(rt)?;
-    kitchen.print(rt)?;
+    let mut tree = kitchen.empty_tree(rt)?;
+    let published = kitchen.build(rt, &mut tree)?;
+    proof_read(rt, &published, kitchen.card(&tree))?;
     let card = Turning {
-        first: kitchen.card(),
-        second: kitchen.older_card(),
+        first: kitchen.card(&tree),
+        second: kitchen.older_card(&tree),
         left: SOUND,
     };
-    let mount = Mount::new(Sha256, &kitchen.label(), Counting::new(card));
+    let mount = published.mount(Counting::new(card));
     let mut files = OpenFiles::new(rt.alloc(), mount);
     let outcome = reading::read_all(rt, &mut files);
     let card = files.into_device();

@@ -5,7 +5,7 @@ use digest::Digest;
 use open_files::{OpenFiles, Opened};
 use std::{fmt, str};
 
-const TABLE: &str = "foods/selenium.csv";
+pub const TABLE: &str = "foods/selenium.csv";
 
 const OTHERS: [&str; 4] = [
     "foods/iron.csv",
