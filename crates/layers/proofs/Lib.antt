@@ -2,6 +2,7 @@ pub mod Tests
 pub mod Blocks
 pub mod Descent
 pub mod Paths
+pub mod Stopping
 pub mod Judging
 pub mod Sizes
 pub mod Walking
