@@ -7,4 +7,5 @@ pub mod Judging
 pub mod Sizes
 pub mod Walking
 pub mod Rows
+pub mod Keeping
 pub mod Caching

@@ -18,7 +18,8 @@ pub fn honest_accepted<R>()
     ensures { HonestAccepted R }
 {}
 
-// What the cache's rows have is what the device below gave, and it asks below only what no row has.
+/// What the cache's rows have is what the device below gave, it asks below only what no row has, and an answer from below of at
+/// most 4,096 bytes goes into the row whose turn it is.
 pub fn cache_stands<R>()
     ensures { CacheStands R }
 {}
