@@ -13,7 +13,7 @@ use Rattle.layers.specs.Anchor.{Anchor}
 use Rattle.layers.specs.Fault.{data_place, place_of, Lies}
 use Rattle.layers.specs.Verity.{tree_place, next_digest, checked, go_on, walk, verity, is_block}
 use Rattle.layers.specs.Path.{data_question, tree_question, path_questions, GivenDown, IsPath, Fails, IsCut}
-use Rattle.layers.specs.Laws.{Stops, PathsStop}
+use Rattle.layers.specs.Laws.{Stops, NamesLevel, PathsStop}
 use Rattle.layers.proofs.Tests.{tested, block-parts}
 use Rattle.layers.proofs.Blocks.{tree-lies}
 use Rattle.layers.proofs.Descent.{further, at}
@@ -129,7 +129,13 @@ module _ {R : Type 0} (a : Anchor) where
         let long = whole-length (levels a.shape) path.0 bytes (exchanges m (walk a k (levels a.shape) want)) path.1 in
         absurd (omega arith)
 
-    pub stops : k < a.shape.blocks → (m : Meaning R) → Stops a k (result m (walk a k (levels a.shape) a.root)) (exchanges m (walk a k (levels a.shape) a.root))
+    level_by : 0 < fanout a.shape → k < a.shape.blocks → (m : Meaning R) (answer : UpperOf R) → result m (walk a k (levels a.shape) a.root) ≡ answer → NamesLevel a.shape answer
+    level_by pos there m (Ok bytes) is = tt
+    level_by pos there m (Err fault) is =
+        let n = levels a.shape in
+        cut-lies pos there n (omega arith) a.root fault (exchanges m (walk a k n a.root)) (cut n a.root m fault is)
+
+    stops : k < a.shape.blocks → (m : Meaning R) → Stops a k (result m (walk a k (levels a.shape) a.root)) (exchanges m (walk a k (levels a.shape) a.root))
     stops there m =
         let n = levels a.shape in
         record {
@@ -137,7 +143,6 @@ module _ {R : Type 0} (a : Anchor) where
           accepted = λ bytes. (along a k n a.root bytes m, back a k n a.root bytes m);
           refused = λ fault. (cut n a.root m fault, ends n a.root m fault);
           short = short_by a.root m (result m (walk a k n a.root)) refl;
-          level = λ pos fault is. cut-lies pos there n (omega arith) a.root fault (exchanges m (walk a k n a.root)) (cut n a.root m fault is);
         }
 
 pub paths_stop_lem : {R : Type 0} → PathsStop R
@@ -145,4 +150,6 @@ unfolding verity
 paths_stop_lem {R = R} a m q is =
     let way = walk {R = R} a q.block (levels a.shape) a.root in
     let same : verity (Some a) q ≡ way = cond-true (is_block a.shape q) way _ is in
-    subst (λ w. Stops a q.block (result m w) (exchanges m w)) (sym same) (stops a q.block (block-parts a.shape q is).0 m)
+    let there = (block-parts a.shape q is).0 in
+    subst (λ w. Stops a q.block (result m w) (exchanges m w) × (0 < fanout a.shape → NamesLevel a.shape (result m w))) (sym same)
+    (stops a q.block there m, λ pos. level_by a q.block pos there m (result m way) refl)
