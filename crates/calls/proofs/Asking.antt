@@ -78,7 +78,7 @@ module _ (a : Anchor) where
     -- a whole path in front
     ends-cons : (answer : Answer (StorageFault R)) (path : Path R) (paths : List (Path R)) → IsWhole a path → Ends a answer paths → Ends a answer (path ∷ paths)
     ends-cons (Ok b) path paths whole ends = (whole, ends)
-    ends-cons (Err fault) path paths whole ends = record { before = path ∷ ends.before; last = ends.last; all = ap (λ ps. path ∷ ps) ends.all; whole = (whole, ends.whole); cut = ends.cut }
+    ends-cons (Err fault) path paths whole ends = record { before = path ∷ ends.before; last = ends.last; all = ap (λ ps. path ∷ ps) ends.all; whole = (whole, ends.whole); cut = ends.cut; lies = ends.lies }
 
     -- the first block was answered, and then the others
     later : (b n : ℕ) (first answer : Answer (StorageFault R)) (xs ys : List (Exchange R)) (block : List ℕ) → answer ≡ elim first [ Ok more ↦ Ok (block ++ more) | Err fault ↦ Err fault ]
@@ -117,7 +117,7 @@ module _ (a : Anchor) where
           paths = path ∷ [];
           between = (record { low = omega arith; high = omega arith }, tt);
           rising = (tt, tt);
-          ends = subst (λ x. Ends a x (path ∷ [])) (sym replays) (record { before = []; last = path; all = refl; whole = tt; cut = cut });
+          ends = subst (λ x. Ends a x (path ∷ [])) (sym replays) (record { before = []; last = path; all = refl; whole = tt; cut = cut.0; lies = cut.1 });
           exchanged = refl;
         }
 

@@ -6,6 +6,7 @@ use Rattle.device.specs.Program.{Program, Meaning, Exchange, after, result, aske
 use Rattle.device.specs.Layer.{through}
 use Rattle.device.proofs.Runs.{Onward, ran-end}
 use Rattle.device.proofs.Exchanges.{exchanges-put, result-put}
+use Rattle.tree.specs.Shape.{fanout}
 use Rattle.layers.specs.declared.fault.StorageFault.{StorageFault}
 use Rattle.layers.specs.Anchor.{Anchor}
 use Rattle.layers.specs.Cache.{Table}
@@ -41,7 +42,7 @@ makes-gives P (refuse e) gives (f ∷ fetches) x makes = absurd makes
 makes-gives P (fetch from n fault rest) gives [] x makes = absurd makes
 makes-gives P (fetch from n fault rest) gives (f ∷ fetches) x (same, long, makes) = by_answer P fault rest fetches x (λ bytes made. makes-gives P (rest bytes) (gives bytes) fetches x made) f.answer makes
 
-module _ {R : Type 0} (a : Anchor) (some : 0 < a.shape.data_block) (room : 512 ≤ image_length a.shape) where
+module _ {R : Type 0} (a : Anchor) (wide : 0 < fanout a.shape) (some : 0 < a.shape.data_block) (room : 512 ≤ image_length a.shape) where
   -- the start within the image stays
   fits-made : (s : State) → Fits (image_length a.shape) s → (call : Call) (fetches : List (Fetch R)) (r : Result Accepted (Refusal (StorageFault R))) → Makes (call_rules (image_length a.shape) s call) fetches r → Fits (image_length a.shape) (state_of s r)
   fits-made s fits call fetches (Ok x) makes = makes-gives (λ (y : Accepted). Fits (image_length a.shape) y.state) (call_rules (image_length a.shape) s call) (call_keeps (StorageFault R) (image_length a.shape) s fits call) fetches x makes
@@ -60,7 +61,7 @@ module _ {R : Type 0} (a : Anchor) (some : 0 < a.shape.data_block) (room : 512 �
       let program = through (store {R = R}) (by_label m.label m.state call) (m.table, m.label) in
       let put : Result Accepted (Refusal (StorageFault R)) × (Table × Option Anchor) → Reply (StorageFault R) × Mounted = λ end. (reply_of call end.0, record { label = end.1.1; table = end.1.0; state = state_of m.state end.0 }) in
       let end = result meaning program in
-      let w = went (store {R = R}) (λ both. both.1 ≡ Some a) (Serves a) (λ n both keeps q. store-serves a n both.1 keeps q both.0) (by_label m.label m.state call) meaning (m.table, m.label) told in
+      let w = went (store {R = R}) (λ both. both.1 ≡ Some a) (Serves a) (λ n both keeps q. store-serves a wide n both.1 keeps q both.0) (by_label m.label m.state call) meaning (m.table, m.label) told in
       let replays : Replays (by_label (Some a) m.state call) w.all end.0 = subst (λ l. Replays (by_label l m.state call) w.all end.0) told w.replays in
       let made = program-made a some holds (call_rules (image_length a.shape) m.state call) (call-clean (StorageFault R) (image_length a.shape) room m.state fits call) w.all end.0 w.served replays in
       let here : Paths m.state call (put end) (exchanges meaning program) =
@@ -78,12 +79,12 @@ module _ {D R : Type 0} (meaning : D → Meaning R) (moves : D → Question → 
       → ((x.reply, n) ≡ result (meaning d) (mount m x.call)) × (meaning e ≡ after (meaning d) (asked (meaning d) (mount m x.call)))
   step-end m d x n e step = ran-end meaning moves onward (mount m x.call) d (x.reply, n) e step.ran
 
-  pub paths-asked : (a : Anchor) → 0 < a.shape.data_block → 512 ≤ image_length a.shape → (xs : List (Event R)) (m : Mounted) (d : D) (n : Mounted) (e : D) → Used meaning moves m d xs n e → m.label ≡ Some a → Fits (image_length a.shape) m.state
+  pub paths-asked : (a : Anchor) → 0 < fanout a.shape → 0 < a.shape.data_block → 512 ≤ image_length a.shape → (xs : List (Event R)) (m : Mounted) (d : D) (n : Mounted) (e : D) → Used meaning moves m d xs n e → m.label ≡ Some a → Fits (image_length a.shape) m.state
       → PathsAsked a m.state xs
-  paths-asked a some room [] m d n e used told fits = tt
-  paths-asked a some room (x ∷ xs) m d n e (k, f, step, rest) told fits =
+  paths-asked a wide some room [] m d n e used told fits = tt
+  paths-asked a wide some room (x ∷ xs) m d n e (k, f, step, rest) told fits =
       let end = step-end m d x k f step in
-      let here : Paths a some room m.state x.call (x.reply, k) x.exchanges =
-      subst (Paths a some room m.state x.call (x.reply, k)) (sym step.exchanged)
-      (subst (λ v. Paths a some room m.state x.call v (exchanges (meaning d) (mount m x.call))) (sym end.0) (call-paths a some room m told fits x.call (meaning d))) in
-      (here.asks, subst (λ s. PathsAsked a s xs) here.state (paths-asked a some room xs k f n e rest here.told here.fits))
+      let here : Paths a wide some room m.state x.call (x.reply, k) x.exchanges =
+      subst (Paths a wide some room m.state x.call (x.reply, k)) (sym step.exchanged)
+      (subst (λ v. Paths a wide some room m.state x.call v (exchanges (meaning d) (mount m x.call))) (sym end.0) (call-paths a wide some room m told fits x.call (meaning d))) in
+      (here.asks, subst (λ s. PathsAsked a s xs) here.state (paths-asked a wide some room xs k f n e rest here.told here.fits))

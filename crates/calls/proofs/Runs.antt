@@ -1,5 +1,5 @@
 -- The law of runs, by induction on the use.
-use Rattle.std.proofs.Common.{◌≡◌, ◌⊎◌, true, List, [], ◌∷◌, ◌++◌, map, Option, None, Some, IsSome, IfSome, Ok, Err, refl, sym, ap, ap₂, ◌∙◌, subst, inl, inr}
+use Rattle.std.proofs.Common.{◌≡◌, ◌⊎◌, true, List, [], ◌∷◌, ◌++◌, map, Option, None, Some, IsSome, IfSome, Ok, Err, refl, sym, ap, ap₂, ◌∙◌, subst, inl, inr, arith}
 use Rattle.std.specs.List.{AllByRecursion}
 use Rattle.std.specs.Option.{is_some}
 use Rattle.std.proofs.lemmas.Bool.{false≢true}
@@ -102,7 +102,7 @@ module _ {D R : Type 0} (meaning : D → Meaning R) (moves : D → Question → 
         agrees = λ none. (all none).0;
         asked = asks xs start d n e used;
         moved = goes xs start d n e used;
-        paths = paths-asked meaning moves onward (anchor_of p) whole.sound.bytes (room p limits) xs start d n e used refl tt;
+        paths = paths-asked meaning moves onward (anchor_of p) (omega (arith, whole.sound.wide)) whole.sound.bytes (room p limits) xs start d n e used refl tt;
         honest = λ honest. none_named p xs honest (all (no_twin p (all_exchanges xs) honest)).1;
         blamed = λ none. (all none).1;
       }

@@ -1,11 +1,12 @@
 -- What a call asks a device: for each of its fetches one path after another, of data blocks in rising order.
-use Rattle.std.specs.Prelude.{◌≡◌, ℕ, ◌+◌, ◌*◌, ◌<◌, ◌≤◌, List, [], ◌∷◌, ◌++◌, map, Result, Ok, Err}
+use Rattle.std.specs.Prelude.{◌≡◌, ℕ, ◌+◌, ◌*◌, ◌<◌, ◌≤◌, List, [], ◌∷◌, ◌++◌, map, Result, Ok, Err, IfSome}
 use Rattle.std.specs.List.{AllByRecursion}
 use Rattle.device.specs.Answer.{Answer}
 use Rattle.device.specs.Program.{Exchange}
 use Rattle.tree.specs.Shape.{levels}
 use Rattle.layers.specs.declared.fault.StorageFault.{StorageFault}
 use Rattle.layers.specs.Anchor.{Anchor}
+use Rattle.layers.specs.Fault.{place_of, Lies}
 use Rattle.layers.specs.Path.{IsPath, IsCut}
 use Rattle.volume.specs.Fetches.{Fetches, give, refuse, fetch}
 use Rattle.calls.specs.declared.refusal.Refusal.{Refusal}
@@ -48,13 +49,14 @@ pub record Touches (d from n k : ℕ) : Type 0 where
 abbrev pub IsWhole : {R : Type 0} → Anchor → Path R → Type 0
 IsWhole a path = (bytes : List ℕ) × IsPath a path.block (levels a.shape) a.root bytes path.exchanges
 
--- all are whole but the last, which is cut where a block fails with this fault
+-- all are whole but the last, which is cut where a block fails with this fault, and that lies on the level that the fault names
 pub record EndsCut {R : Type 0} (a : Anchor) (fault : StorageFault R) (paths : List (Path R)) : Type 0 where
   pub before : List (Path R)
   pub last : Path R
   pub all : paths ≡ before ++ last ∷ []
   pub whole : AllByRecursion (IsWhole a) before
   pub cut : IsCut a last.block (levels a.shape) a.root fault last.exchanges
+  pub lies : IfSome (place_of fault) (Lies a.shape)
 
 abbrev pub Ends : {R : Type 0} → Anchor → Answer (StorageFault R) → List (Path R) → Type 0
 Ends a (Ok bytes) paths = AllByRecursion (IsWhole a) paths
