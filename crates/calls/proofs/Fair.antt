@@ -14,8 +14,8 @@ use Rattle.layers.specs.Judged.{IsFor, WasRefused, Judged}
 abbrev pub Blames : {R : Type 0} → Publisher → StorageFault R → List (Exchange R) → Type 0
 Blames p Label xs = ⊥
 Blames p (NoBlock block) xs = ⊥
-Blames p (Refused place refusal) xs = Somewhere (λ x. IsFor place x × WasRefused p refusal x) xs
-Blames p (Mismatch place) xs = Somewhere (λ x. IsFor place x × Differs p x) xs
+Blames p (Refused place refusal) xs = Somewhere (λ x. IsFor p.shape place x × WasRefused p refusal x) xs
+Blames p (Mismatch place) xs = Somewhere (λ x. IsFor p.shape place x × Differs p x) xs
 
 -- an answer is the publisher's block, or a fault that names one to blame
 abbrev pub IsFair : {R : Type 0} → Publisher → Question → Answer (StorageFault R) → List (Exchange R) → Type 0

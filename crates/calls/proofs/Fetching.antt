@@ -28,7 +28,7 @@ comes_put f bytes answer None comes = ap (λ (a : Answer (StorageFault _)). elim
 comes_put f bytes answer (Some fault) comes = ap (λ (a : Answer (StorageFault _)). elim a [ Ok b ↦ Ok (f b) | Err fault ↦ Err fault ]) comes
 
 -- the blocks that some bytes touch are there, and hold them
-touched_room : (d blocks from n : ℕ) → 0 < d → from + n ≤ blocks * d → (from / d + touched d from n ≤ blocks) × (from % d + n ≤ touched d from n * d ⊎ (n ≡ 0))
+pub touched_room : (d blocks from n : ℕ) → 0 < d → from + n ≤ blocks * d → (from / d + touched d from n ≤ blocks) × (from % d + n ≤ touched d from n * d ⊎ (n ≡ 0))
 touched_room d blocks from n some room =
     elim (cases_eq n 0) [
       | inl none ↦

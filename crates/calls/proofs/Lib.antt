@@ -5,4 +5,8 @@ pub mod Fetching
 pub mod Within
 pub mod States
 pub mod Steps
+pub mod Replays
+pub mod Serving
+pub mod Asking
+pub mod Paths
 pub mod Runs

@@ -18,14 +18,14 @@ use Rattle.calls.proofs.Fair.{Blames, IsFair, Post, Fair}
 pub blames-still : {R : Type 0} (p : Publisher) (fault : StorageFault R) (xs ys : List (Exchange R)) → Blames p fault xs → Blames p fault (xs ++ ys)
 blames-still p Label xs ys h = absurd h
 blames-still p (NoBlock block) xs ys h = absurd h
-blames-still p (Refused place refusal) xs ys h = still (λ x. IsFor place x × WasRefused p refusal x) xs ys h
-blames-still p (Mismatch place) xs ys h = still (λ x. IsFor place x × Differs p x) xs ys h
+blames-still p (Refused place refusal) xs ys h = still (λ x. IsFor p.shape place x × WasRefused p refusal x) xs ys h
+blames-still p (Mismatch place) xs ys h = still (λ x. IsFor p.shape place x × Differs p x) xs ys h
 
 pub blames-behind : {R : Type 0} (p : Publisher) (fault : StorageFault R) (xs ys : List (Exchange R)) → Blames p fault ys → Blames p fault (xs ++ ys)
 blames-behind p Label xs ys h = absurd h
 blames-behind p (NoBlock block) xs ys h = absurd h
-blames-behind p (Refused place refusal) xs ys h = behind (λ x. IsFor place x × WasRefused p refusal x) xs ys h
-blames-behind p (Mismatch place) xs ys h = behind (λ x. IsFor place x × Differs p x) xs ys h
+blames-behind p (Refused place refusal) xs ys h = behind (λ x. IsFor p.shape place x × WasRefused p refusal x) xs ys h
+blames-behind p (Mismatch place) xs ys h = behind (λ x. IsFor p.shape place x × Differs p x) xs ys h
 
 -- no twin in two rows of exchanges
 pub none-first : {R : Type 0} (p : Publisher) (xs ys : List (Exchange R)) → NoTwin p (xs ++ ys) → NoTwin p xs

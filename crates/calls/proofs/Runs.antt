@@ -1,5 +1,5 @@
 -- The law of runs, by induction on the use.
-use Rattle.std.proofs.Common.{◌≡◌, ◌⊎◌, true, List, [], ◌∷◌, ◌++◌, map, Option, None, Some, IsSome, IfSome, Ok, Err, refl, sym, ap, ap₂, ◌∙◌, subst, inl, inr}
+use Rattle.std.proofs.Common.{◌≡◌, ◌⊎◌, true, List, [], ◌∷◌, ◌++◌, map, Option, None, Some, IsSome, IfSome, Ok, Err, refl, sym, ap, ap₂, ◌∙◌, subst, inl, inr, arith}
 use Rattle.std.specs.List.{AllByRecursion}
 use Rattle.std.specs.Option.{is_some}
 use Rattle.std.proofs.lemmas.Bool.{false≢true}
@@ -8,7 +8,7 @@ use Rattle.device.specs.declared.question.Question.{Question}
 use Rattle.device.specs.Answer.{Answer}
 use Rattle.device.specs.Program.{Meaning, Exchange, Sized, after, result, asked, exchanges}
 use Rattle.device.specs.Run.{Along}
-use Rattle.device.proofs.Runs.{Onward, ran-end}
+use Rattle.device.proofs.Runs.{Onward}
 use Rattle.device.proofs.Exchanges.{questions-asked, ran-along, along-more}
 use Rattle.geometry.specs.Limits.{within}
 use Rattle.layers.specs.declared.fault.Place.{Place}
@@ -22,7 +22,8 @@ use Rattle.calls.specs.Law.{Event, Step, Used, all_exchanges, rules_ask, Agrees,
 use Rattle.calls.proofs.Lift.{none-first, none-second}
 use Rattle.calls.proofs.Stores.{IsTold, AllRight}
 use Rattle.calls.proofs.Within.{Fits}
-use Rattle.calls.proofs.Steps.{Fine, call-fine}
+use Rattle.calls.proofs.Steps.{Fine, room, call-fine}
+use Rattle.calls.proofs.Paths.{step-end, paths-asked}
 
 -- what an honest device gave leaves nothing to blame
 none_to_blame : {R : Type 0} (p : Publisher) (place : Place) (xs : List (Exchange R)) → Honest p xs → IsToBlame p xs place → ⊥
@@ -57,17 +58,12 @@ none_named p (x ∷ xs) honest blames = (
 )
 
 module _ {D R : Type 0} (meaning : D → Meaning R) (moves : D → Question → D → Type 0) (onward : Onward meaning moves) (sized : (d : D) → Sized (meaning d)) where
-  -- what a step comes to
-  step-end : (m : Mounted) (d : D) (x : Event R) (n : Mounted) (e : D) → Step meaning moves m d x n e
-      → ((x.reply, n) ≡ result (meaning d) (mount m x.call)) × (meaning e ≡ after (meaning d) (asked (meaning d) (mount m x.call)))
-  step-end m d x n e step = ran-end meaning moves onward (mount m x.call) d (x.reply, n) e step.ran
-
   -- the device is asked what the rules ask
   asks : (xs : List (Event R)) (m : Mounted) (d : D) (n : Mounted) (e : D) → Used meaning moves m d xs n e → map (λ x. x.question) (all_exchanges xs) ≡ rules_ask (meaning d) m xs
   asks [] m d n e used = refl
   asks (x ∷ xs) m d n e (k, f, step, rest) =
       let program = mount {R = R} m x.call in
-      let end = step-end m d x k f step in
+      let end = step-end meaning moves onward m d x k f step in
       map-append (λ y. y.question) x.exchanges (all_exchanges xs)
       ∙ ap₂ (λ a b. a ++ b) (ap (map (λ y. y.question)) step.exchanged ∙ questions-asked program (meaning d))
       (asks xs k f n e rest ∙ ap₂ (λ w j. rules_ask w j xs) end.1 (ap (λ (r : Reply (StorageFault R) × Mounted). r.1) end.0))
@@ -88,7 +84,7 @@ module _ {D R : Type 0} (meaning : D → Meaning R) (moves : D → Question → 
         → NoTwin p (all_exchanges xs) → Agrees p s xs × AllByRecursion (λ x. IfSome (named x.reply.answer) (IsToBlame p x.exchanges)) xs
     fine [] m d n e s used told right fits is none = (tt, tt)
     fine (x ∷ xs) m d n e s (k, f, step, rest) told right fits is none =
-        let end = step-end m d x k f step in
+        let end = step-end meaning moves onward m d x k f step in
         let quiet : NoTwin p (exchanges (meaning d) (mount m x.call)) = subst (NoTwin p) step.exchanged (none-first p x.exchanges (all_exchanges xs) none) in
         let ends : Fine p m.state x.call x.reply k x.exchanges =
         subst (Fine p m.state x.call x.reply k) (sym step.exchanged)
@@ -106,6 +102,7 @@ module _ {D R : Type 0} (meaning : D → Meaning R) (moves : D → Question → 
         agrees = λ none. (all none).0;
         asked = asks xs start d n e used;
         moved = goes xs start d n e used;
+        paths = paths-asked meaning moves onward (anchor_of p) (omega (arith, whole.sound.wide)) whole.sound.bytes (room p limits) xs start d n e used refl tt;
         honest = λ honest. none_named p xs honest (all (no_twin p (all_exchanges xs) honest)).1;
         blamed = λ none. (all none).1;
       }

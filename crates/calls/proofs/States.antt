@@ -14,7 +14,7 @@ use Rattle.calls.specs.Calls.{Call, begin, open_file, read, whole, list, close, 
 use Rattle.calls.proofs.Within.{Fits}
 
 module _ (F : Type 0) (limit : ℕ) where
-  abbrev Keeps : Rules F → Type 0
+  abbrev pub Keeps : Rules F → Type 0
   Keeps program = Gives {F = F} (λ a. Fits limit a.state) program
 
   start_gives : Gives {F = F} (λ at. at.size ≤ limit) (start limit)
@@ -68,7 +68,7 @@ module _ (F : Type 0) (limit : ℕ) where
   by_begun None on then = tt
   by_begun (Some at) on then = then at
 
-  call_keeps : (s : State) → Fits limit s → (call : Call) → Keeps (call_rules limit s call)
+  pub call_keeps : (s : State) → Fits limit s → (call : Call) → Keeps (call_rules limit s call)
   call_keeps s fits begin = begin_keeps s.held s.begun fits
   call_keeps s fits (open_file path) = by_begun s.begun (λ at. open_rules at s path) (λ at. open_keeps s fits at path)
   call_keeps s fits (read file f n) = by_begun s.begun (λ at. read_rules at s file f n) (λ at. read_keeps s fits at file f n)

@@ -37,9 +37,9 @@ pub to_blame : {R : Type 0} (p : Publisher) (fault : StorageFault R) (xs : List 
 to_blame p Label xs h = absurd h
 to_blame p (NoBlock block) xs h = absurd h
 to_blame {R = R} p (Refused place refusal) xs h =
-    (place, refl, each_there (λ x. IsFor place x × WasRefused p refusal x) (λ x. IsFor place x × (((r : R) × WasRefused p r x) ⊎ Differs p x)) xs (λ x b. (b.0, inl (refusal, b.1))) h)
+    (place, refl, each_there (λ x. IsFor p.shape place x × WasRefused p refusal x) (λ x. IsFor p.shape place x × (((r : R) × WasRefused p r x) ⊎ Differs p x)) xs (λ x b. (b.0, inl (refusal, b.1))) h)
 to_blame {R = R} p (Mismatch place) xs h =
-    (place, refl, each_there (λ x. IsFor place x × Differs p x) (λ x. IsFor place x × (((r : R) × WasRefused p r x) ⊎ Differs p x)) xs (λ x b. (b.0, inr b.1)) h)
+    (place, refl, each_there (λ x. IsFor p.shape place x × Differs p x) (λ x. IsFor p.shape place x × (((r : R) × WasRefused p r x) ⊎ Differs p x)) xs (λ x b. (b.0, inr b.1)) h)
 
 -- a reply of a call, and the mount after it
 pub record Fine {R : Type 0} (p : Publisher) (s : State) (call : Call) (reply : Reply (StorageFault R)) (n : Mounted) (xs : List (Exchange R)) : Type 0 where

@@ -7,11 +7,13 @@ use Rattle.device.specs.Run.{Ran, Along}
 use Rattle.geometry.specs.Limits.{within}
 use Rattle.layers.specs.declared.fault.Place.{Place}
 use Rattle.layers.specs.declared.fault.StorageFault.{StorageFault}
+use Rattle.layers.specs.Anchor.{Anchor}
 use Rattle.layers.specs.Publisher.{Publisher, Whole, anchor_of, Differs, NoTwin, Honest}
 use Rattle.layers.specs.Judged.{IsFor, WasRefused}
-use Rattle.calls.specs.Calls.{Call, State, Reply, fresh}
+use Rattle.calls.specs.Calls.{Call, State, Reply, fresh, state_of}
 use Rattle.calls.specs.Mount.{Mounted, made, mount}
 use Rattle.calls.specs.Image.{image_reply, image_state, named}
+use Rattle.calls.specs.Paths.{AsksPaths}
 
 -- a call of a mount, its reply, and what the device was asked and answered for it
 pub record Event (R : Type 0) : Type 0 where
@@ -39,14 +41,19 @@ abbrev pub rules_ask : {R : Type 0} → Meaning R → Mounted → List (Event R)
 rules_ask meaning m [] = []
 rules_ask meaning m (x ∷ xs) = asked meaning (mount m x.call) ++ rules_ask (after meaning (asked meaning (mount m x.call))) (result meaning (mount m x.call)).1 xs
 
+-- the exchanges of each call are paths of its fetches
+abbrev pub PathsAsked : {R : Type 0} → Anchor → State → List (Event R) → Type 0
+PathsAsked a s [] = Unit {0}
+PathsAsked a s (x ∷ xs) = (asks : AsksPaths a s x.call x.reply x.exchanges) × PathsAsked a (state_of s asks.result) xs
+
 -- each answer is a storage fault or the image's
 abbrev pub Agrees : {R : Type 0} → Publisher → State → List (Event R) → Type 0
 Agrees p s [] = Unit {0}
 Agrees p s (x ∷ xs) = (IsSome (named x.reply.answer) ⊎ (x.reply ≡ image_reply p s x.call)) × Agrees p (image_state p s x.call x.reply) xs
 
--- a block was refused in these exchanges, or came in them and is not the publisher's
+-- a block that lies on the level of this place was refused in these exchanges, or came in them and is not the publisher's
 abbrev pub IsToBlame : {R : Type 0} → Publisher → List (Exchange R) → Place → Type 0
-IsToBlame {R = R} p xs place = Somewhere (λ x. IsFor place x × (((refusal : R) × WasRefused p refusal x) ⊎ Differs p x)) xs
+IsToBlame {R = R} p xs place = Somewhere (λ x. IsFor p.shape place x × (((refusal : R) × WasRefused p refusal x) ⊎ Differs p x)) xs
 
 pub record Kept {D R : Type 0} (meaning : D → Meaning R) (moves : D → Question → D → Type 0) (p : Publisher) (d : D) (xs : List (Event R)) (e : D) : Type 0 where
   -- unless a twin was given, each answer is a storage fault or equals the image's, with every byte of its buffer and the
@@ -55,6 +62,9 @@ pub record Kept {D R : Type 0} (meaning : D → Meaning R) (moves : D → Questi
   -- the device was asked what the rules ask, in their order, and nothing else
   pub asked : map (λ x. x.question) (all_exchanges xs) ≡ rules_ask (meaning d) (made (Some (anchor_of p))) xs
   pub moved : Along moves d (map (λ x. x.question) (all_exchanges xs)) e
+  -- for each fetch of a call that was one path after another, of data blocks in rising order, from the label's root down; only the
+  -- last of a call may be cut, at the block that was refused or has another digest
+  pub paths : PathsAsked (anchor_of p) fresh xs
   -- if each question got the publisher's block, there was no storage fault
   pub honest : Honest p (all_exchanges xs) → AllByRecursion (λ x. named x.reply.answer ≡ None) xs
   -- unless a twin was given, each block that a storage fault names was refused in that call, or came in it and is not the

@@ -6,6 +6,8 @@ use Rattle.tree.specs.Shape.{Shape, fanout, levels, width, blocks_from, tree_blo
 use Rattle.tree.specs.Tree.{block_of, node, tree}
 use Rattle.tree.proofs.Places.{place}
 use Rattle.tree.proofs.Widths.{above_data}
+use Rattle.layers.specs.Fault.{data_place, Lies}
+use Rattle.layers.specs.Verity.{tree_place}
 use Rattle.layers.specs.Path.{data_question, tree_question}
 use Rattle.layers.specs.Publisher.{Publisher, Whole, right_block}
 
@@ -29,6 +31,12 @@ in_tree s i j low there =
     let left : levels s - i ≡ suc (levels s - suc i) = omega arith in
     let one : blocks_from s i (levels s - i) ≡ width s (suc i) + blocks_from s (suc i) (levels s - suc i) = ap (blocks_from s i) left in
     omega (arith, from_low s i (omega arith), one)
+
+-- the block of level i above a data block lies on that level
+pub tree-lies : (s : Shape) → 0 < fanout s → (k i : ℕ) → k < s.blocks → i < levels s → Lies s (tree_place s k i)
+tree-lies s pos k i there low =
+    let up = above_data s pos (suc i) k there in
+    (low, omega arith, omega arith)
 
 module _ (p : Publisher) (whole : Whole p) (k : ℕ) (there : k < p.shape.blocks) where
   pub right_data : right_block p (data_question p.shape k) ≡ Some (node p.salted p.shape p.image 0 k)

@@ -1,5 +1,5 @@
 -- The table through any questions, and what each is answered.
-use Rattle.std.proofs.Common.{◌≡◌, ℕ, ◌+◌, ◌%◌, cond, leb, List, [], ◌∷◌, ◌++◌, length, set, Option, Some, None, Ok, Err, IfOk, IfSome, refl, sym, ap, ◌∙◌, subst, inl, inr, append_assoc, arith}
+use Rattle.std.proofs.Common.{◌≡◌, ℕ, ◌+◌, ◌%◌, ◌<◌, cond, leb, List, [], ◌∷◌, ◌++◌, length, set, Option, Some, None, Ok, Err, IfOk, IfSome, refl, sym, ap, ◌∙◌, subst, inl, inr, append_assoc, arith}
 use Rattle.std.specs.List.{AllByRecursion}
 use Rattle.std.proofs.lemmas.List.{length-set}
 use Rattle.std.proofs.lemmas.Nat.{mod_below}
@@ -10,10 +10,11 @@ use Rattle.device.specs.Run.{Ran}
 use Rattle.device.specs.Layer.{state_after, meaning_after, asked_for}
 use Rattle.layers.specs.Path.{given}
 use Rattle.layers.specs.Cache.{Row, Table, empty, find, keep, cached, cache_layer}
-use Rattle.layers.specs.CacheLaws.{Holds, CacheStands}
+use Rattle.layers.specs.CacheLaws.{Holds, Keeps, CacheStands}
 use Rattle.layers.proofs.Tests.{tested}
 use Rattle.layers.proofs.Descent.{at}
 use Rattle.layers.proofs.Rows.{found, all-set, once-set}
+use Rattle.layers.proofs.Keeping.{keep-keeps}
 
 -- what was somewhere still is, with more behind it
 pub still : {X : Type 0} (P : X → Type 0) (xs ys : List X) → Somewhere P xs → Somewhere P (xs ++ ys)
@@ -100,9 +101,13 @@ module _ {R : Type 0} where
   unfolding cache_layer
   hit_is m table q bytes is = (ap (λ o. result m (cached table q o)) is, ap (λ o. asked m (cached table q o)) is)
 
-  miss_is : (m : Meaning R) (table : Table) (q : Question) → find q table.rows ≡ None → asked m (cache_layer table q) ≡ q ∷ []
+  miss_is : (m : Meaning R) (table : Table) (q : Question) → find q table.rows ≡ None → (asked m (cache_layer table q) ≡ q ∷ []) × ((result m (cache_layer table q)).0 ≡ m [] q)
   unfolding cache_layer
-  miss_is m table q is = ap (λ o. asked m (cached table q o)) is
+  miss_is m table q is = (ap (λ o. asked m (cached table q o)) is, ap (λ o. (result m (cached table q o)).0) is)
+
+  keeps_is : (m : Meaning R) (table : Table) (q : Question) → length table.rows ≡ 4 → table.turn < 4 → find q table.rows ≡ None → Keeps table q (result m (cache_layer table q)).0 (result m (cache_layer table q)).1
+  unfolding cache_layer
+  keeps_is m table q four low is = subst (λ o. Keeps table q (result m (cached table q o)).0 (result m (cached table q o)).1) (sym is) (keep-keeps table four low q (m [] q))
 
 pub cache_stands_lem : {R : Type 0} → CacheStands R
 cache_stands_lem {R = R} m qs q =
@@ -113,6 +118,7 @@ cache_stands_lem {R = R} m qs q =
       holds = holds;
       hit = hit_is left table q;
       miss = miss_is left table q;
+      keeps = keeps_is left table q holds.four holds.turn;
       gave = genuine-next left q table (asked_for cache_layer empty m qs) holds;
     }
 

@@ -14,19 +14,19 @@ use Rattle.layers.specs.declared.fault.Place.{Place}
 use Rattle.layers.specs.declared.fault.StorageFault.{StorageFault}
 use Rattle.layers.specs.declared.fault.StorageFault.TheVariants.{Label, NoBlock, Refused, Mismatch}
 use Rattle.layers.specs.Anchor.{Anchor}
-use Rattle.layers.specs.Fault.{data_place}
+use Rattle.layers.specs.Fault.{data_place, Lies}
 use Rattle.layers.specs.Verity.{tree_place, next_digest, checked, go_on, walk}
 use Rattle.layers.specs.Path.{data_question, tree_question}
 use Rattle.layers.specs.Publisher.{Publisher, Whole, anchor_of, right_block, Differs, NoTwin}
 use Rattle.layers.specs.Judged.{IsFor, WasRefused, Judged}
 use Rattle.layers.proofs.Tests.{tested}
-use Rattle.layers.proofs.Blocks.{right_data, right_tree, length-data}
+use Rattle.layers.proofs.Blocks.{tree-lies, right_data, right_tree, length-data}
 use native.Mathlib.Nat.{pow-zero}
 
 -- what holds of an answer whatever was given
 abbrev Named : {R : Type 0} → Publisher → Answer (StorageFault R) → List (Exchange R) → Type 0
 Named p (Ok block) xs = Unit {0}
-Named p (Err (Refused place refusal)) xs = Somewhere (λ x. IsFor place x × WasRefused p refusal x) xs
+Named p (Err (Refused place refusal)) xs = Somewhere (λ x. IsFor p.shape place x × WasRefused p refusal x) xs
 Named p (Err (Mismatch place)) xs = Unit {0}
 Named p (Err Label) xs = ⊥
 Named p (Err (NoBlock block)) xs = ⊥
@@ -35,7 +35,7 @@ Named p (Err (NoBlock block)) xs = ⊥
 abbrev Good : {R : Type 0} → Publisher → Question → Answer (StorageFault R) → List (Exchange R) → Type 0
 Good p q (Ok block) xs = right_block p q ≡ Some block
 Good p q (Err (Refused place refusal)) xs = Unit {0}
-Good p q (Err (Mismatch place)) xs = Somewhere (λ x. IsFor place x × Differs p x) xs
+Good p q (Err (Mismatch place)) xs = Somewhere (λ x. IsFor p.shape place x × Differs p x) xs
 Good p q (Err Label) xs = Unit {0}
 Good p q (Err (NoBlock block)) xs = Unit {0}
 
@@ -81,9 +81,12 @@ module _ (p : Publisher) (whole : Whole p) (k : ℕ) (there : k < p.shape.blocks
   abbrev above : ℕ → List ℕ
   above i = node h s p.image i (k / fanout s ^ i)
 
+  lies : (i : ℕ) → i < levels s → Lies s (tree_place s k i)
+  lies i low = tree-lies s (omega (arith, whole.sound.wide)) k i there low
+
   module _ {R : Type 0} where
     named_data : (want : List ℕ) (answer : Answer R) → Named p (checked a (data_place k) want answer) (at (data_question s k) answer ∷ [])
-    named_data want (Err refusal) = inl ((refl, refl), (rw (right_data p whole k there) refl, refl))
+    named_data want (Err refusal) = inl ((refl, refl, there), (rw (right_data p whole k there) refl, refl))
     named_data want (Ok block) =
         tested (bytes_eq (h block) want) (λ b. Named p (cond b (Ok block) (Err (Mismatch (data_place k)))) (at {R = R} (data_question s k) (Ok block) ∷ [])) (λ is. tt) (λ is. tt)
 
@@ -96,7 +99,7 @@ module _ (p : Publisher) (whole : Whole p) (k : ℕ) (there : k < p.shape.blocks
 
       named_tree : ((block : List ℕ) → Named p (result m (further a k i block)) (exchanges m (further a k i block))) → (answer : Answer R)
           → Named p (result m (rest answer)) (at q answer ∷ exchanges m (rest answer))
-      named_tree below (Err refusal) = inl ((refl, refl), (rw (right_tree p whole k there i low) refl, refl))
+      named_tree below (Err refusal) = inl ((refl, refl, lies i low), (rw (right_tree p whole k there i low) refl, refl))
       named_tree below (Ok block) =
           let P : Bool → Type 0 = λ b. let then = go_on (further a k i) (cond b (Ok block) (Err (Mismatch (tree_place s k i)))) in Named p (result m then) (at {R = R} q (Ok block) ∷ exchanges m then) in
           tested (bytes_eq (h block) want) P (λ is. named_later p (result m (further a k i block)) (at {R = R} q (Ok block)) (exchanges m (further a k i block)) (below block)) (λ is. tt)
@@ -125,8 +128,8 @@ module _ (p : Publisher) (whole : Whole p) (k : ℕ) (there : k < p.shape.blocks
         }))
 
     -- a block with another digest than the publisher's is not the publisher's
-    differs : (asked : Question) (place : Place) (block node_there want : List ℕ) → IsFor place (at {R = R} asked (Ok block)) → right_block p asked ≡ Some node_there → want ≡ h node_there → bytes_eq (h block) want ≡ false
-        → IsFor place (at {R = R} asked (Ok block)) × Differs p (at {R = R} asked (Ok block))
+    differs : (asked : Question) (place : Place) (block node_there want : List ℕ) → IsFor p.shape place (at {R = R} asked (Ok block)) → right_block p asked ≡ Some node_there → want ≡ h node_there → bytes_eq (h block) want ≡ false
+        → IsFor p.shape place (at {R = R} asked (Ok block)) × Differs p (at {R = R} asked (Ok block))
     differs asked place block node_there want is_for published wanted other = (
       is_for,
       record {
@@ -148,7 +151,7 @@ module _ (p : Publisher) (whole : Whole p) (k : ℕ) (there : k < p.shape.blocks
         (λ is.
         let same : h block ≡ h (node h s p.image 0 k) = (bytes_eq-Decides (h block) want).0 is ∙ wanted in
         published ∙ ap Some (sym (twin q block (node h s p.image 0 k) fits published (length-data p whole k there) same none)))
-        (λ is. inl (differs q (data_place k) block (node h s p.image 0 k) want (refl, refl) published wanted is))
+        (λ is. inl (differs q (data_place k) block (node h s p.image 0 k) want (refl, refl, there) published wanted is))
 
     module _ (i : ℕ) (low : i < levels s) (want : List ℕ) (wanted : want ≡ h (above (suc i))) (m : Meaning R) where
       good_tree : ((block : List ℕ) → block ≡ above (suc i) → NoTwin p (exchanges m (further a k i block)) → Good p (data_question s k) (result m (further a k i block)) (exchanges m (further a k i block)))
@@ -166,7 +169,7 @@ module _ (p : Publisher) (whole : Whole p) (k : ℕ) (there : k < p.shape.blocks
           let same : h block ≡ h (above (suc i)) = (bytes_eq-Decides (h block) want).0 is ∙ wanted in
           let right = twin asked block (above (suc i)) fits published (length-node h s p.size whole.sound p.image i (k / fanout s ^ suc i)) same (fine.0, tt) in
           good_later p (data_question s k) (result m (further a k i block)) (at {R = R} asked (Ok block)) (exchanges m (further a k i block)) (below block right fine.1))
-          (λ is fine. inl (differs asked place block (above (suc i)) want (refl, refl) published wanted is))
+          (λ is fine. inl (differs asked place block (above (suc i)) want (refl, refl, lies i low) published wanted is))
           none
 
     good : (i : ℕ) → i ≤ levels s → (want : List ℕ) → want ≡ h (above i) → (m : Meaning R) → Sized m → NoTwin p (exchanges m (walk a k i want))

@@ -56,8 +56,8 @@ none_refused p P refusal (x ∷ xs) honest (inr later) = none_refused p P refusa
 
 right_answer : {R : Type 0} (p : Publisher) (q : Question) (right : List ℕ) → right_block p q ≡ Some right → (answer : Answer (StorageFault R)) (xs : List (Exchange R)) → Honest p xs → Judged p q answer xs → answer ≡ Ok right
 right_answer p q right published (Ok block) xs honest judged = let e = judged (no_twin p xs honest) in ap (λ b. Ok b) (let s : block ≡ right = cc in s)
-right_answer p q right published (Err (Refused place refusal)) xs honest judged = absurd (none_refused p (IsFor place) refusal xs honest judged)
-right_answer p q right published (Err (Mismatch place)) xs honest judged = absurd (none_differs p (IsFor place) xs honest (judged (no_twin p xs honest)))
+right_answer p q right published (Err (Refused place refusal)) xs honest judged = absurd (none_refused p (IsFor p.shape place) refusal xs honest judged)
+right_answer p q right published (Err (Mismatch place)) xs honest judged = absurd (none_differs p (IsFor p.shape place) xs honest (judged (no_twin p xs honest)))
 right_answer p q right published (Err Label) xs honest judged = absurd judged
 right_answer p q right published (Err (NoBlock block)) xs honest judged = absurd judged
 

@@ -2,8 +2,10 @@ pub mod Tests
 pub mod Blocks
 pub mod Descent
 pub mod Paths
+pub mod Stopping
 pub mod Judging
 pub mod Sizes
 pub mod Walking
 pub mod Rows
+pub mod Keeping
 pub mod Caching

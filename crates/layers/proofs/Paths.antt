@@ -1,23 +1,20 @@
 -- A block is accepted exactly along a path.
 use Rattle.std.proofs.Common.{◌≡◌, ℕ, zero, suc, Bool, cond, List, [], ◌∷◌, Some, Ok, Err, refl, sym, ap, ap₂, ◌∙◌, subst, bytes_eq}
-use Rattle.std.proofs.lemmas.Bool.{cond-true}
 use Rattle.std.proofs.lemmas.Slice.Eq.{bytes_eq-Decides}
 use Rattle.device.specs.declared.question.Question.{Question}
 use Rattle.device.specs.Answer.{Answer}
 use Rattle.device.specs.Program.{Program, Meaning, Exchange, after, result, exchanges}
-use Rattle.tree.specs.Shape.{levels}
 use Rattle.layers.specs.declared.fault.Place.{Place}
 use Rattle.layers.specs.declared.fault.StorageFault.{StorageFault}
 use Rattle.layers.specs.declared.fault.StorageFault.TheVariants.{Refused, Mismatch}
 use Rattle.layers.specs.Anchor.{Anchor}
 use Rattle.layers.specs.Fault.{data_place}
-use Rattle.layers.specs.Verity.{tree_place, next_digest, checked, go_on, walk, verity, is_block}
+use Rattle.layers.specs.Verity.{tree_place, next_digest, checked, go_on, walk}
 use Rattle.layers.specs.Path.{data_question, tree_question, given, GivenDown, IsPath}
-use Rattle.layers.specs.Laws.{PathsAccepted}
 use Rattle.layers.proofs.Tests.{tested}
 use Rattle.layers.proofs.Descent.{further, at}
 
-abbrev UpperOf : Type 0 → Type 0
+abbrev pub UpperOf : Type 0 → Type 0
 UpperOf R = Answer (StorageFault R)
 
 -- two lists of exchanges that begin with an answer
@@ -28,7 +25,7 @@ first_answer {R = R} q answer b xs ys same =
 
 module _ {R : Type 0} (a : Anchor) where
   -- a block is accepted exactly where it was given and has the digest
-  accepted : (place : Place) (want bytes : List ℕ) (answer : Answer R) → checked a place want answer ≡ Ok bytes → (answer ≡ Ok bytes) × (a.salted bytes ≡ want)
+  pub accepted : (place : Place) (want bytes : List ℕ) (answer : Answer R) → checked a place want answer ≡ Ok bytes → (answer ≡ Ok bytes) × (a.salted bytes ≡ want)
   accepted place want bytes (Err refusal) is =
       let fault : UpperOf R = Err (Refused place refusal) in
       let good : UpperOf R = Ok bytes in
@@ -44,7 +41,7 @@ module _ {R : Type 0} (a : Anchor) where
       (λ t same. let e : fault ≡ wanted = same in cc) is in
       (ap (λ xs. Ok xs) both.0, subst (λ xs. a.salted xs ≡ want) both.0 both.1)
 
-  accepts : (place : Place) (want bytes : List ℕ) (answer : Answer R) → answer ≡ Ok bytes → a.salted bytes ≡ want → checked a place want answer ≡ Ok bytes
+  pub accepts : (place : Place) (want bytes : List ℕ) (answer : Answer R) → answer ≡ Ok bytes → a.salted bytes ≡ want → checked a place want answer ≡ Ok bytes
   accepts place want bytes answer was same =
       ap (checked a place want) was ∙ ap (λ b. cond b (Ok bytes) (Err (Mismatch place))) ((bytes_eq-Decides (a.salted bytes) want).1 same)
 
@@ -94,13 +91,3 @@ module _ {R : Type 0} (a : Anchor) where
         let here : xs ≡ exchanges rest (further a k i b) = sym first.1 ∙ ap (exchanges rest) on in
         ap (result rest) on
         ∙ back i (next_digest a k i b) bytes rest (bs, subst (λ ys. GivenDown a.shape k i bs bytes ys) here down, leads.1)
-
-pub paths_accepted_lem : {R : Type 0} → PathsAccepted R
-unfolding verity
-paths_accepted_lem a m q is bytes =
-    let k = q.block in
-    let n = levels a.shape in
-    let same : verity (Some a) q ≡ walk a k n a.root = cond-true (is_block a.shape q) (walk a k n a.root) _ is in (
-      λ e. subst (λ p. IsPath a k n a.root bytes (exchanges m p)) (sym same) (along a k n a.root bytes m (ap (result m) (sym same) ∙ e)),
-      λ path. ap (result m) same ∙ back a k n a.root bytes m (subst (λ p. IsPath a k n a.root bytes (exchanges m p)) same path),
-    )

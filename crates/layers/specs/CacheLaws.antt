@@ -1,7 +1,8 @@
 -- What holds of the cache over any device, from its making on.
-use Rattle.std.specs.Prelude.{◌≡◌, ℕ, ◌<◌, List, [], ◌∷◌, ◌++◌, length, Ok, Option, Some, None, IfOk, IfSome}
+use Rattle.std.specs.Prelude.{◌≡◌, ◌≢◌, ℕ, ◌+◌, ◌<◌, ◌≤◌, List, [], ◌∷◌, ◌++◌, length, get_or, Ok, Err, Option, Some, None, IfOk, IfSome}
 use Rattle.std.specs.List.{AllByRecursion}
 use Rattle.device.specs.declared.question.Question.{Question}
+use Rattle.device.specs.Answer.{Answer}
 use Rattle.device.specs.Program.{Meaning, Exchange, Somewhere, result, asked, exchanges}
 use Rattle.device.specs.Layer.{state_after, meaning_after, asked_for}
 use Rattle.layers.specs.Path.{given}
@@ -19,15 +20,34 @@ pub record Holds {R : Type 0} (table : Table) (xs : List (Exchange R)) : Type 0 
   pub gave : AllByRecursion (λ row. IfSome row (λ r. Somewhere (λ x. x ≡ given r.question r.bytes) xs)) table.rows
   pub once : Once table.rows
 
+-- the row whose turn it was has this, the others are as before, and the turn is the next: the first's after the fourth's
+pub record Wrote (old : Table) (row : Row) (new : Table) : Type 0 where
+  pub written : get_or new.rows old.turn None ≡ Some row
+  pub others : (i : ℕ) → i ≢ old.turn → get_or new.rows i None ≡ get_or old.rows i None
+  pub next : old.turn < 3 → new.turn ≡ old.turn + 1
+  pub first : old.turn ≡ 3 → new.turn ≡ 0
+
+-- what the table is after the answer to a question that no row had: with a row for it, if it was accepted and has at most 4,096
+-- bytes, and else as it was
+abbrev pub Keeps : {R : Type 0} → Table → Question → Answer R → Table → Type 0
+Keeps old q (Ok bytes) new = (length bytes ≤ 4096 → Wrote old (record { question = q; bytes = bytes }) new) × (4096 < length bytes → new ≡ old)
+Keeps old q (Err refusal) new = new ≡ old
+
 -- a question to the cache after some others, from the empty table on
 pub record Cached {R : Type 0} (m : Meaning R) (qs : List Question) (q : Question) : Type 0 where
   pub holds : Holds (state_after cache_layer empty m qs) (asked_for cache_layer empty m qs)
-  -- what a row has is answered, and asks nothing
+  -- what a row has is answered, asks nothing and leaves the table
   pub hit : (bytes : List ℕ) → find q (state_after cache_layer empty m qs).rows ≡ Some bytes
       → (result (meaning_after cache_layer empty m qs) (cache_layer (state_after cache_layer empty m qs) q) ≡ (Ok bytes, state_after cache_layer empty m qs))
       × (asked (meaning_after cache_layer empty m qs) (cache_layer (state_after cache_layer empty m qs) q) ≡ [])
-  -- what no row has goes below, once
-  pub miss : find q (state_after cache_layer empty m qs).rows ≡ None → asked (meaning_after cache_layer empty m qs) (cache_layer (state_after cache_layer empty m qs) q) ≡ q ∷ []
+  -- what no row has goes below, once, and the answer is passed on
+  pub miss : find q (state_after cache_layer empty m qs).rows ≡ None
+      → (asked (meaning_after cache_layer empty m qs) (cache_layer (state_after cache_layer empty m qs) q) ≡ q ∷ [])
+      × ((result (meaning_after cache_layer empty m qs) (cache_layer (state_after cache_layer empty m qs) q)).0 ≡ meaning_after cache_layer empty m qs [] q)
+  -- and is kept
+  pub keeps : find q (state_after cache_layer empty m qs).rows ≡ None
+      → Keeps (state_after cache_layer empty m qs) q (result (meaning_after cache_layer empty m qs) (cache_layer (state_after cache_layer empty m qs) q)).0
+      (result (meaning_after cache_layer empty m qs) (cache_layer (state_after cache_layer empty m qs) q)).1
   -- an accepted answer is what the device below gave to exactly this question, now or before
   pub gave : IfOk (result (meaning_after cache_layer empty m qs) (cache_layer (state_after cache_layer empty m qs) q)).0
       (λ bytes. Somewhere (λ x. x ≡ given q bytes)

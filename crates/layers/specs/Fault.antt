@@ -1,7 +1,8 @@
--- The numbers and places of a storage fault.
-use Rattle.std.specs.Prelude.{ℕ, Option, Some, None}
+-- The numbers and places of a storage fault, and which blocks lie on a level.
+use Rattle.std.specs.Prelude.{ℕ, suc, ◌+◌, ◌<◌, ◌≤◌, Option, Some, None}
 use Rattle.device.specs.declared.question.Area.{Area}
 use Rattle.device.specs.declared.question.Area.TheVariants as area
+use Rattle.tree.specs.Shape.{Shape, levels, width, start}
 use Rattle.layers.specs.declared.fault.Level.{Level}
 use Rattle.layers.specs.declared.fault.Level.TheVariants.{Data, Tree}
 use Rattle.layers.specs.declared.fault.Place.{Place}
@@ -34,3 +35,13 @@ place_of Label = None
 place_of (NoBlock block) = Some (data_place block)
 place_of (Refused place below) = Some place
 place_of (Mismatch place) = Some place
+
+-- a block of this number lies on this level: the data has N, and level i of the tree has those from start(i) on, as many as it
+-- is wide
+abbrev pub IsOn : Shape → Level → ℕ → Type 0
+IsOn s Data block = block < s.blocks
+IsOn s (Tree i) block = (i < levels s) × (start s i ≤ block) × (block < start s i + width s (suc i))
+
+-- the block of a place lies on the place's level
+abbrev pub Lies : Shape → Place → Type 0
+Lies s place = IsOn s place.level place.block

@@ -1,10 +1,11 @@
 // Laws of the path check over any device; each function's contract is one.
 ghost use Rattle.layers.specs.CacheLaws.{CacheStands};
-ghost use Rattle.layers.specs.Laws.{AnswersJudged, HonestAccepted, PathsAccepted};
+ghost use Rattle.layers.specs.Laws.{AnswersJudged, HonestAccepted, PathsStop};
 
-// A block is accepted if and only if the blocks that were given are a path from the root to it.
-pub fn paths_accepted<R>()
-    ensures { PathsAccepted R }
+/// A block is accepted if and only if the blocks that were given are the path from the root to it. Else the questions end at the
+/// first block that was refused or has another digest, and the fault names it and its level.
+pub fn paths_stop<R>()
+    ensures { PathsStop R }
 {}
 
 // A wrong block is accepted only where a twin was given, and a fault names a block that was refused or wrong.
@@ -17,7 +18,8 @@ pub fn honest_accepted<R>()
     ensures { HonestAccepted R }
 {}
 
-// What the cache's rows have is what the device below gave, and it asks below only what no row has.
+/// What the cache's rows have is what the device below gave, it asks below only what no row has, and an answer from below of at
+/// most 4,096 bytes goes into the row whose turn it is.
 pub fn cache_stands<R>()
     ensures { CacheStands R }
 {}

@@ -5,4 +5,4 @@ mod fault;
 mod laws;
 
 pub use fault::{Level, Place, StorageFault};
-pub use laws::{answers_judged, cache_stands, honest_accepted, paths_accepted};
+pub use laws::{answers_judged, cache_stands, honest_accepted, paths_stop};

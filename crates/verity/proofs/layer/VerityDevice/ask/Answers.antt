@@ -9,11 +9,13 @@ use Rattle.layers.specs.Anchor.{Anchor}
 use Rattle.layers.specs.Publisher.{anchor_of}
 use Rattle.layers.specs.Judged.{Judged}
 use Rattle.layers.specs.Verity.{verity, verity_layer}
-use Rattle.layers.proofs.Paths.{paths_accepted_lem}
+use Rattle.layers.specs.Laws.{Stops, NamesLevel}
+use Rattle.layers.proofs.Stopping.{paths_stop_lem}
 use Rattle.layers.proofs.Judging.{answers_judged_lem}
 use Rattle.layers.proofs.Walking.{verity-ran}
 use Rattle.verity.specs.Anchored.{kept}
 use Rattle.verity.specs.Layer.{label_of}
+use Rattle.verity.proofs.Labels.{kept-wide}
 use Rattle.verity.proofs.layer.VerityDevice.ask.Goals as goal
 
 -- the answer of the check, by what the label tells
@@ -48,13 +50,20 @@ returns-clause-moves g c =
     (answer, rw same (verity-ran g.D.Device.meaning g.D.Device.moves (label_of v) q v.below answer c.answer.new.self.below c.answer.ensures.run))
 
 pub returns-clause-path : goal.returns-clause-path
-returns-clause-path g c anchor told block bytes =
+returns-clause-path g c anchor told block =
     let v = c.args.self.now in
     let q = question c.args.area c.args.block c.args.buf.now in
     let m = g.D.Device.meaning v.below in
     let is = of_label m (label_of v) anchor told q _ (ran-end g.D.Device.meaning g.D.Device.moves g.met.D.Device.onward (verity (label_of v) q) v.below _ c.answer.new.self.below c.answer.ensures.run).0 in
-    let law = paths_accepted_lem anchor m q block bytes in
-    (λ e. law.0 (sym is ∙ e), λ path. is ∙ law.1 path)
+    subst (λ x. Stops anchor q.block x (exchanges m (verity (Some anchor) q))) (sym is) (paths_stop_lem anchor m q block).0
+
+pub returns-clause-level : goal.returns-clause-level
+returns-clause-level g c anchor told block =
+    let v = c.args.self.now in
+    let q = question c.args.area c.args.block c.args.buf.now in
+    let m = g.D.Device.meaning v.below in
+    let is = of_label m (label_of v) anchor told q _ (ran-end g.D.Device.meaning g.D.Device.moves g.met.D.Device.onward (verity (label_of v) q) v.below _ c.answer.new.self.below c.answer.ensures.run).0 in
+    subst (λ x. NamesLevel anchor.shape x) (sym is) ((paths_stop_lem anchor m q block).1 (kept-wide v.anchor anchor told))
 
 pub returns-clause-judged : goal.returns-clause-judged
 returns-clause-judged g c p whole told block =
