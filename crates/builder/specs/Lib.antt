@@ -4,3 +4,4 @@ pub mod Ready
 pub mod Parts
 pub mod InParts
 pub mod BaseCheck
+pub mod Sentence

@@ -1,6 +1,8 @@
 // Why a tree was not built.
-ghost use Rattle.std.specs.Prelude.{◌≡◌};
+ghost use Rattle.std.specs.Prelude.{◌≡◌, ◌++◌, Some, codes};
+ghost use Rattle.std.specs.Fmt.{decimal};
 ghost use Rattle.builder.specs.Build.{number_of};
+ghost use Rattle.builder.specs.Sentence.{sentence_of};
 
 use std::fmt;
 
@@ -13,22 +15,28 @@ pub enum BuildFault {
 }
 
 impl BuildFault {
+    /// The fault's number, 2 or 3.
     pub fn number(self) -> u8
         ensures { result ≡ number_of self }
     {
         self as u8
     }
+
+    fn sentence(self) -> &'static str
+        ensures { result.now ≡ sentence_of self }
+    {
+        match self {
+            BuildFault::Limit => "a block size, a number of blocks or a salt outside its limit",
+            BuildFault::Length => "an image or a buffer of the wrong length",
+        }
+    }
 }
 
 // By hand: the crates below `text` stand on std alone.
 impl fmt::Display for BuildFault {
+    ghost output = { λ fault. Some (decimal (number_of fault) ++ (codes ": " ++ sentence_of fault)) };
+
     fn fmt<W: fmt::Write>(&self, f: &mut fmt::Formatter<W>) -> fmt::Result {
-        match self {
-            BuildFault::Limit => write!(
-                f,
-                "2: a block size, a number of blocks or a salt outside its limit"
-            ),
-            BuildFault::Length => write!(f, "3: an image or a buffer of the wrong length"),
-        }
+        write!(f, "{}: {}", self.number(), self.sentence())
     }
 }

@@ -1,4 +1,5 @@
 pub mod Refusal
+pub mod Sentence
 pub mod Calls
 pub mod Mount
 pub mod Image

@@ -1,6 +1,7 @@
 // Why a call was refused. `F` is the fault of the path check.
-ghost use Rattle.std.specs.Prelude.{◌≡◌};
+ghost use Rattle.std.specs.Prelude.{◌≡◌, Some};
 ghost use Rattle.calls.specs.Refusal.{mount_number, places_of, refusal_number, volume_fault_number, volume_fault_places, within_path};
+ghost use Rattle.calls.specs.Sentence.{mount_rule_text, mount_sentence, refusal_text};
 
 use layers::{Place, StorageFault};
 use std::fmt;
@@ -24,25 +25,34 @@ pub enum MountRule {
 }
 
 impl MountRule {
+    /// The rule's number, 2 or 50 to 54.
     pub fn number(self) -> u8
         ensures { result ≡ mount_number self }
     {
         self as u8
     }
-}
 
-impl fmt::Display for MountRule {
-    fn fmt<W: fmt::Write>(&self, f: &mut fmt::Formatter<W>) -> fmt::Result {
-        let text = match self {
+    fn sentence(self) -> &'static str
+        ensures { result.now ≡ mount_sentence self }
+    {
+        match self {
             MountRule::Label => "a label with a value outside its limit, or of another digest",
-            MountRule::Handle =>
-                "the handle's file is not within this volume, or no handle is held",
+            MountRule::Handle => {
+                "the handle's file is not within this volume, or no handle is held"
+            }
             MountRule::Offset => "the offset is behind the file's end",
             MountRule::Length => "the buffer has another length than the call fills",
             MountRule::Held => "65535 handles are held, and no more can be",
             MountRule::NotBegun => "the mount has not begun",
-        };
-        write!(f, "{}: {text}", self.number())
+        }
+    }
+}
+
+impl fmt::Display for MountRule {
+    ghost output = { λ rule. Some (mount_rule_text rule) };
+
+    fn fmt<W: fmt::Write>(&self, f: &mut fmt::Formatter<W>) -> fmt::Result {
+        write!(f, "{}: {}", self.number(), self.sentence())
     }
 }
 
@@ -124,6 +134,8 @@ impl<R> Refusal<StorageFault<R>> {
 }
 
 impl<F: fmt::Display> fmt::Display for Refusal<F> {
+    ghost output = { λ refusal. refusal_text F.output refusal };
+
     fn fmt<W: fmt::Write>(&self, f: &mut fmt::Formatter<W>) -> fmt::Result {
         match self {
             Refusal::Mount(rule) => write!(f, "{rule}"),

@@ -5,9 +5,10 @@ ghost use Rattle.geometry.specs.Limits.{is_block_size};
 use crate::command::{Misuse, spelled};
 use crate::fault::Fault;
 use geometry::{Geometry, SALT_LIMIT};
-use std::alloc::Global;
+use hex::FromHexError;
+use std::alloc::{AllocError, Global};
 use std::env::Args;
-use text::{Function, unhex};
+use text::Function;
 
 #[derive(Drop)]
 pub struct BuildOptions {
@@ -42,7 +43,11 @@ fn salt_bytes(heap: Global, text: String) -> Result<Vec<u8>, Fault>
     if text.as_str() == "-" {
         return Ok(Vec::new(heap));
     }
-    let salt = unhex(heap, text.as_bytes())?.ok_or(Misuse::BadSalt(text))?;
+    let salt = match hex::decode(heap, text.as_bytes()) {
+        Ok(salt) => salt,
+        Err(FromHexError::OutOfMemory) => return Err(Fault::Memory(AllocError)),
+        Err(_) => return Err(Fault::from(Misuse::BadSalt(text))),
+    };
     if salt.len() > SALT_LIMIT {
         return Err(Fault::from(Misuse::LongSalt(salt.len())));
     }

@@ -2,11 +2,11 @@
 ghost use Rattle.std.specs.Prelude.{◌≤◌, IfOk, length};
 
 use crate::fault::Fault;
-use digest::LIMIT;
+use digest::{LIMIT, Refusal};
 use std::fs::File;
 use std::io;
 use std::io::Read;
-use text::{Function, Unhashed};
+use text::{Bytes, Digits, Function};
 use thiserror::Error;
 
 // Why a file has no sum.
@@ -19,8 +19,8 @@ enum NoSum {
     Endless,
     #[error(transparent)]
     Io(#[from] io::Error),
-    #[error(transparent)]
-    Unhashed(#[from] Unhashed),
+    #[error("refused: {0}")]
+    Refused(Refusal),
 }
 
 // A file that is no longer than a digest takes. Reads at most one byte above the limit, so that one with
@@ -41,9 +41,9 @@ fn read_whole(rt: &HostRuntime, name: &str) -> Result<Vec<u8>, NoSum>
     }
 }
 
-fn sum(rt: &HostRuntime, function: Function, name: &str) -> Result<String, NoSum> {
+fn sum(rt: &HostRuntime, function: Function, name: &str) -> Result<Bytes<64>, NoSum> {
     let bytes = read_whole(rt, name)?;
-    Ok(function.hex(rt.alloc(), b"", bytes.as_slice())?)
+    function.sum(b"", bytes.as_slice()).map_err(NoSum::Refused)
 }
 
 // Prints the sum of each file that has one, and for each other file a line on standard error.
@@ -51,7 +51,7 @@ pub fn print_sums(rt: &HostRuntime, function: Function, files: &[String]) -> Res
     let mut outcome = Ok(());
     for name in files {
         match sum(rt, function, name.as_str()) {
-            Ok(hex) => println!(rt; "{hex}  {name}")?,
+            Ok(sum) => println!(rt; "{}  {name}", Digits(sum.as_slice()))?,
             Err(why) => {
                 eprintln!(rt; "card: {name:?}: {why}")?;
                 outcome = Err(Fault::Files);

@@ -1,3 +1,4 @@
+pub mod Area
 pub mod Answer
 pub mod Program
 pub mod Run

@@ -1,4 +1,7 @@
 // What is asked of a device.
+ghost use Rattle.std.specs.Prelude.{Some};
+ghost use Rattle.device.specs.Area.{area_name};
+
 use std::fmt;
 
 #[derive(Clone, Copy, PartialEq, Eq, Debug)]
@@ -8,6 +11,8 @@ pub enum Area {
 }
 
 impl fmt::Display for Area {
+    ghost output = { λ area. Some (area_name area) };
+
     fn fmt<W: fmt::Write>(&self, f: &mut fmt::Formatter<W>) -> fmt::Result {
         match self {
             Area::Data => write!(f, "data"),

@@ -1,5 +1,6 @@
 // Why a digest was refused.
-ghost use Rattle.std.specs.Prelude.{◌≡◌};
+ghost use Rattle.std.specs.Prelude.{◌≡◌, ◌++◌, Some, codes};
+ghost use Rattle.std.specs.Fmt.{decimal};
 ghost use Rattle.digest.specs.Answer.{number_of};
 
 use std::fmt;
@@ -11,6 +12,7 @@ pub enum Refusal {
 }
 
 impl Refusal {
+    /// The refusal's number, 3.
     pub fn number(self) -> u8
         ensures { result ≡ number_of self }
     {
@@ -20,9 +22,15 @@ impl Refusal {
 
 // By hand: the crates below `text` stand on std alone.
 impl fmt::Display for Refusal {
+    ghost output = { λ refusal. Some (decimal (number_of refusal) ++ codes ": a buffer or a message of the wrong length") };
+
     fn fmt<W: fmt::Write>(&self, f: &mut fmt::Formatter<W>) -> fmt::Result {
         match self {
-            Refusal::Length => write!(f, "3: a buffer or a message of the wrong length"),
+            Refusal::Length => write!(
+                f,
+                "{}: a buffer or a message of the wrong length",
+                self.number()
+            ),
         }
     }
 }

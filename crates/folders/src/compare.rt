@@ -10,7 +10,6 @@ use open_files::{ContentsFault, contents};
 use sha2::{Digest as Hasher, Sha256};
 use std::alloc::Global;
 use std::fmt;
-use text::hex;
 use volume::{Kind, PathRule};
 
 // By the kit's library, which takes a message of any length.
@@ -40,7 +39,7 @@ where
     let path = expected.path;
     match contents(heap, mount, path.as_bytes()) {
         Ok(bytes) => {
-            let digest = hex(heap, &sha256_of(bytes.as_slice()))?;
+            let digest = hex::encode(heap, sha256_of(bytes.as_slice()).as_slice())?;
             ensure!(
                 expected.is_file(bytes.len(), digest.as_str()),
                 "another file: {path}"

@@ -1,5 +1,6 @@
 // Checking a label against a digest.
-ghost use Rattle.std.specs.Prelude.{◌≡◌};
+ghost use Rattle.std.specs.Prelude.{◌≡◌, ◌++◌, Some, codes};
+ghost use Rattle.std.specs.Fmt.{decimal};
 ghost use Rattle.geometry.specs.Label.{Checked, number_of};
 
 use crate::geometry::Geometry;
@@ -29,6 +30,7 @@ impl Label<'_> {
 }
 
 impl LabelFault {
+    /// The fault's number, 2.
     pub fn number(self) -> u8
         ensures { result ≡ number_of self }
     {
@@ -38,11 +40,14 @@ impl LabelFault {
 
 // By hand: the crates below `text` stand on std alone.
 impl fmt::Display for LabelFault {
+    ghost output = { λ fault. Some (decimal (number_of fault) ++ codes ": a label with a value outside its limit, or of another digest") };
+
     fn fmt<W: fmt::Write>(&self, f: &mut fmt::Formatter<W>) -> fmt::Result {
         match self {
             LabelFault::Limit => write!(
                 f,
-                "2: a label with a value outside its limit, or of another digest"
+                "{}: a label with a value outside its limit, or of another digest",
+                self.number()
             ),
         }
     }

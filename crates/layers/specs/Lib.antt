@@ -1,4 +1,5 @@
 pub mod Fault
+pub mod Sentence
 pub mod Anchor
 pub mod Verity
 pub mod Path

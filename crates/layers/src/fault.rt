@@ -1,7 +1,8 @@
 // Why a block was not given.
-ghost use Rattle.std.specs.Prelude.{◌≡◌};
+ghost use Rattle.std.specs.Prelude.{◌≡◌, Some};
 ghost use Rattle.layers.specs.declared.fault.StorageFault.TheVariants.{Refused};
 ghost use Rattle.layers.specs.Fault.{area_of, data_place, level_number, number_of, place_of};
+ghost use Rattle.layers.specs.Sentence.{fault_text, place_text};
 
 use device::Area;
 use std::fmt;
@@ -43,6 +44,8 @@ pub struct Place {
 }
 
 impl fmt::Display for Place {
+    ghost output = { λ place. Some (place_text place) };
+
     fn fmt<W: fmt::Write>(&self, f: &mut fmt::Formatter<W>) -> fmt::Result {
         let block = self.block;
         match self.level {
@@ -77,6 +80,7 @@ pub enum StorageFault<R> {
 }
 
 impl<R> StorageFault<R> {
+    /// The fault's number: 2, 10, 11 or 12.
     pub fn number(&self) -> u8
         ensures { result ≡ number_of self.now }
     {
@@ -111,20 +115,28 @@ impl<R> From<(R, Place)> for StorageFault<R> {
 }
 
 impl<R: fmt::Display> fmt::Display for StorageFault<R> {
+    ghost output = { λ fault. fault_text R.output fault };
+
     fn fmt<W: fmt::Write>(&self, f: &mut fmt::Formatter<W>) -> fmt::Result {
+        let number = self.number();
         match self {
             StorageFault::Label => write!(
                 f,
-                "2: a label with a value outside its limit, or of another digest"
+                "{number}: a label with a value outside its limit, or of another digest"
             ),
             StorageFault::NoBlock(block) => {
-                write!(f, "12: {block} is no data block, or not asked for whole")
+                write!(
+                    f,
+                    "{number}: {block} is no data block, or not asked for whole"
+                )
             }
-            StorageFault::Refused(place, below) => write!(f, "10: {place} is refused ({below})"),
+            StorageFault::Refused(place, below) => {
+                write!(f, "{number}: {place} is refused ({below})")
+            }
             StorageFault::Mismatch(place) => {
                 write!(
                     f,
-                    "11: {place} is not the one that the root digest stands for"
+                    "{number}: {place} is not the one that the root digest stands for"
                 )
             }
         }

@@ -1,6 +1,6 @@
 // Why a question was refused, with its place.
-ghost use Rattle.std.specs.Prelude.{◌≡◌};
-ghost use Rattle.media.specs.Fault.{outside_number, spent_number};
+ghost use Rattle.std.specs.Prelude.{◌≡◌, Some};
+ghost use Rattle.media.specs.Fault.{outside_number, outside_text, spent_number, spent_text};
 
 use device::Area;
 use std::fmt;
@@ -13,6 +13,7 @@ pub struct Outside {
 }
 
 impl Outside {
+    /// The refusal's number, 8.
     pub fn number(&self) -> u8
         ensures { result ≡ outside_number self.now }
     {
@@ -21,9 +22,15 @@ impl Outside {
 }
 
 impl fmt::Display for Outside {
+    ghost output = { λ outside. Some (outside_text outside) };
+
     fn fmt<W: fmt::Write>(&self, f: &mut fmt::Formatter<W>) -> fmt::Result {
         let Outside { area, block } = self;
-        write!(f, "8: block {block} of the {area} area is not all there")
+        let number = self.number();
+        write!(
+            f,
+            "{number}: block {block} of the {area} area is not all there"
+        )
     }
 }
 
@@ -35,6 +42,7 @@ pub struct Spent {
 }
 
 impl Spent {
+    /// The refusal's number, 9.
     pub fn number(&self) -> u8
         ensures { result ≡ spent_number self.now }
     {
@@ -43,11 +51,14 @@ impl Spent {
 }
 
 impl fmt::Display for Spent {
+    ghost output = { λ spent. Some (spent_text spent) };
+
     fn fmt<W: fmt::Write>(&self, f: &mut fmt::Formatter<W>) -> fmt::Result {
         let Spent { area, block } = self;
+        let number = self.number();
         write!(
             f,
-            "9: the tape has too few bytes left for block {block} of the {area} area"
+            "{number}: the tape has too few bytes left for block {block} of the {area} area"
         )
     }
 }

@@ -1,12 +1,12 @@
 // Each line of a script is put to the mount, and answered by a line.
 use device::Device;
 use digest::Digest;
+use hex::FromHexError;
 use open_files::{FileFault, NotOpen, OpenFault, OpenFiles};
 use script::{Bottom, Call, Name, PathWord, Reply};
 use std::alloc::{AllocError, Global};
 use std::io::{BufRead, BufReader};
 use std::{io, str};
-use text::unhex;
 
 // A longer buffer is not made.
 const BUFFER_LIMIT: usize = 268435456;
@@ -30,7 +30,10 @@ fn path_bytes(heap: Global, path: PathWord<'_>) -> Result<Vec<u8>, AllocError> {
     match path {
         PathWord::Plain(text) => text.as_bytes().to_vec(heap),
         // the digits are pairs
-        PathWord::Hex(digits) => Ok(unhex(heap, digits.as_bytes())?.unwrap_or(Vec::new(heap))),
+        PathWord::Hex(digits) => match hex::decode(heap, digits.as_bytes()) {
+            Err(FromHexError::OutOfMemory) => Err(AllocError),
+            found => Ok(found.unwrap_or(Vec::new(heap))),
+        },
     }
 }
 

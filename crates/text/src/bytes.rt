@@ -1,7 +1,7 @@
 // A few bytes, without a heap.
 ghost use Rattle.std.specs.Prelude.{◌≤◌};
 
-// At most N bytes.
+/// At most N bytes.
 #[derive(Clone, Copy)]
 pub struct Bytes<const N: usize> {
     pub(crate) buffer: [u8; N],

@@ -13,7 +13,7 @@ fn all_digits(text: &[u8]) -> bool
     text.iter().all(|byte| byte.is_ascii_digit())
 }
 
-// The number that a text of digits stands for, or none where it is another text, or the number has more than 32 bits.
+/// The number that a text of one digit or more stands for, or none where it is another text, or the number has more than 32 bits.
 pub fn number(text: &[u8]) -> Option<u32>
     ensures { result ≡ number_of text.now }
 {

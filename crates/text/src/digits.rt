@@ -1,8 +1,7 @@
 // Bytes in hexadecimal.
-ghost use Rattle.std.specs.Prelude.{◌≡◌, ◌<◌, IfOk, Some, option_map, string_bytes};
-ghost use Rattle.text.specs.Hex.{byte_of, digit_of, digit_value, hex_of, unhex_of};
+ghost use Rattle.std.specs.Prelude.{◌≡◌, ◌<◌, Some};
+ghost use Rattle.text.specs.Hex.{byte_of, digit_of, digit_value, hex_of};
 
-use std::alloc::{AllocError, Global};
 use std::fmt;
 
 fn digit(n: u8) -> char
@@ -13,7 +12,7 @@ fn digit(n: u8) -> char
     char::from_digit(u32::from(n), 16).unwrap()
 }
 
-// Prints two digits for each byte.
+/// Prints two digits for each byte, the upper half first, in small letters.
 #[derive(Clone, Copy)]
 pub struct Digits<'a>(pub &'a [u8]);
 
@@ -28,13 +27,6 @@ impl fmt::Display for Digits<'_> {
     }
 }
 
-// Two digits for each byte.
-pub fn hex(heap: Global, bytes: &[u8]) -> Result<String, AllocError>
-    ensures { IfOk result (λ s. string_bytes s ≡ hex_of bytes.now) }
-{
-    format!(in heap; "{}", Digits(bytes))
-}
-
 fn digit_value(c: u8) -> Option<u8>
     ensures { result ≡ digit_value c }
 {
@@ -46,23 +38,4 @@ pub(crate) fn byte_of(high: u8, low: u8) -> Option<u8>
     ensures { result ≡ byte_of high low }
 {
     Some(digit_value(high)? * 16 + digit_value(low)?)
-}
-
-// The bytes that pairs of digits stand for, or none where the text is no such pairs.
-pub fn unhex(heap: Global, text: &[u8]) -> Result<Option<Vec<u8>>, AllocError>
-    ensures { IfOk result (λ found. option_map (λ v. v.items) found ≡ unhex_of text.now) }
-{
-    if text.len() % 2 != 0 {
-        return Ok(None);
-    }
-    let mut bytes = Vec::new(heap);
-    let mut rest = text;
-    while let [high, low, tail @ ..] = rest {
-        let Some(byte) = byte_of(*high, *low) else {
-            return Ok(None);
-        };
-        bytes.push(byte)?;
-        rest = tail;
-    }
-    Ok(Some(bytes))
 }

@@ -1,4 +1,4 @@
-// Digest functions by name, numbers in decimal, and bytes in hexadecimal.
+// Digest functions by name, numbers in decimal, and bytes in hexadecimal. Nothing here uses a heap.
 #![tactic(auto)]
 
 mod bytes;
@@ -6,12 +6,13 @@ mod decimal;
 mod digits;
 mod function;
 mod laws;
+mod sum;
 mod take;
 #[cfg(test)]
 mod tests;
 
 pub use bytes::Bytes;
 pub use decimal::number;
-pub use digits::{Digits, hex, unhex};
-pub use function::{Function, Unhashed, UnknownFunction};
+pub use digits::Digits;
+pub use function::{Function, UnknownFunction};
 pub use laws::{digits_stand, numbers_stand};

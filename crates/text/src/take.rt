@@ -7,7 +7,7 @@ impl<const N: usize> Bytes<N> {
     ghost use Rattle.std.specs.Option.{option_map};
     ghost use Rattle.text.specs.Bytes.{at_most, bytes_of, unhexed};
 
-    // These bytes, unless they are too many.
+    /// These bytes, unless they are more than N.
     pub fn new(bytes: &[u8]) -> Option<Bytes<N>>
         ensures { option_map bytes_of result ≡ at_most N bytes.now }
     {
@@ -22,7 +22,7 @@ impl<const N: usize> Bytes<N> {
         })
     }
 
-    // The bytes that pairs of digits stand for, or none where the text is no such pairs, or too long.
+    /// The bytes that pairs of digits stand for, or none where the text is no such pairs, or has more than N of them.
     pub fn from_hex(text: &[u8]) -> Option<Bytes<N>>
         ensures { option_map bytes_of result ≡ unhexed N text.now }
     {
@@ -43,6 +43,7 @@ impl<const N: usize> Bytes<N> {
         Some(Bytes { buffer, len })
     }
 
+    /// The bytes.
     pub fn as_slice(&self) -> &[u8]
         ensures { result.now ≡ bytes_of self.now }
     {

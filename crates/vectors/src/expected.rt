@@ -2,7 +2,7 @@
 use crate::message::Message;
 use std::alloc::{AllocError, Global};
 use std::{fmt, fs, io};
-use text::Function;
+use text::{Digits, Function};
 
 #[derive(Drop)]
 pub struct Expected {
@@ -28,11 +28,11 @@ impl Expected {
         heap: Global,
         function: Function,
         message: Message,
-        hex: &str,
+        found: Digits<'_>,
     ) -> Result<Verdict, AllocError> {
-        let wanted = format!(in heap; "{function} {message} {hex}")?;
-        let found = self.text.lines().any(|line| line == wanted.as_str());
-        Ok(if found {
+        let wanted = format!(in heap; "{function} {message} {found}")?;
+        let is_there = self.text.lines().any(|line| line == wanted.as_str());
+        Ok(if is_there {
             Verdict::Right
         } else {
             Verdict::Wrong

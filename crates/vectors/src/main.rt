@@ -14,15 +14,7 @@ use expected::{Expected, Verdict};
 use message::Message;
 use split::Split;
 use tally::Tally;
-use text::{Function, Unhashed};
-
-// The error to print. A `From` would belong to neither type's crate.
-fn told(why: Unhashed) -> anyhow::Error {
-    match why {
-        Unhashed::Refused(_) => anyhow!("a message was refused"),
-        Unhashed::Memory(error) => error.into(),
-    }
-}
+use text::{Digits, Function};
 
 // One line for each way that the message is split between the two arguments.
 fn run_message(
@@ -36,8 +28,9 @@ fn run_message(
     let bytes = message.bytes(heap)?;
     for split in Split::ALL {
         let (first, second) = split.parts(bytes.as_slice());
-        let found = function.hex(heap, first, second).map_err(told)?;
-        let verdict = expected.verdict(heap, function, message, found.as_str())?;
+        let sum = function.sum(first, second).map_err(|why| anyhow!("{why}"))?;
+        let found = Digits(sum.as_slice());
+        let verdict = expected.verdict(heap, function, message, found)?;
         tally.count(verdict);
         println!(rt;
             "{function} {message} {}+{} {found} {verdict}",
@@ -51,7 +44,7 @@ fn run_message(
 fn run(rt: &HostRuntime) -> anyhow::Result<()> {
     let expected = Expected::read(rt)?;
     let mut tally = Tally::default();
-    for function in Function::ALL {
+    for function in Function::all() {
         for message in Message::ALL {
             run_message(rt, &expected, function, message, &mut tally)?;
         }

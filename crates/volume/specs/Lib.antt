@@ -1,4 +1,5 @@
 pub mod Fault
+pub mod Sentence
 pub mod Fetches
 pub mod Words
 pub mod Start

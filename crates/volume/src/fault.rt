@@ -1,8 +1,9 @@
 // Why a volume, or a path on it, was refused. `F` is the fault of the device below.
-ghost use Rattle.std.specs.Prelude.{◌≡◌};
+ghost use Rattle.std.specs.Prelude.{◌≡◌, Some};
 ghost use Rattle.volume.specs.declared.fault.PathFault.TheVariants.{Volume};
 ghost use Rattle.volume.specs.declared.fault.VolumeFault.TheVariants.{Storage};
 ghost use Rattle.volume.specs.Fault.{path_number, volume_number};
+ghost use Rattle.volume.specs.Sentence.{path_fault_text, path_rule_text, path_sentence, volume_fault_text, volume_rule_text, volume_sentence};
 
 use std::fmt;
 
@@ -36,21 +37,23 @@ pub enum VolumeRule {
 }
 
 impl VolumeRule {
+    /// The rule's number, 20 to 23 or 30 to 37.
     pub fn number(self) -> u8
         ensures { result ≡ volume_number self }
     {
         self as u8
     }
-}
 
-impl fmt::Display for VolumeRule {
-    fn fmt<W: fmt::Write>(&self, f: &mut fmt::Formatter<W>) -> fmt::Result {
-        let text = match self {
+    fn sentence(self) -> &'static str
+        ensures { result.now ≡ volume_sentence self }
+    {
+        match self {
             VolumeRule::Text => "no romfs volume begins here",
             VolumeRule::Size => "the volume's size is no multiple of 16, or above the image's",
             VolumeRule::Sum => "the first words of the volume do not sum to zero",
-            VolumeRule::VolumeName =>
-                "the volume's name does not end, or leaves no room for a header",
+            VolumeRule::VolumeName => {
+                "the volume's name does not end, or leaves no room for a header"
+            }
             VolumeRule::Range => "a header is sought outside the volume",
             VolumeRule::Name => "a header's name is not 1 to 127 printable bytes without a slash",
             VolumeRule::HeaderSum => "the words of a header do not sum to zero",
@@ -59,8 +62,15 @@ impl fmt::Display for VolumeRule {
             VolumeRule::Data => "a file's bytes reach past the end of the volume",
             VolumeRule::Links => "this is the ninth hard link in a row",
             VolumeRule::LinkedDirectory => "a hard link leads to this directory",
-        };
-        write!(f, "{}: {text}", self.number())
+        }
+    }
+}
+
+impl fmt::Display for VolumeRule {
+    ghost output = { λ rule. Some (volume_rule_text rule) };
+
+    fn fmt<W: fmt::Write>(&self, f: &mut fmt::Formatter<W>) -> fmt::Result {
+        write!(f, "{}: {}", self.number(), self.sentence())
     }
 }
 
@@ -82,6 +92,8 @@ impl<F> From<(F, u32)> for VolumeFault<F> {
 }
 
 impl<F: fmt::Display> fmt::Display for VolumeFault<F> {
+    ghost output = { λ fault. volume_fault_text F.output fault };
+
     fn fmt<W: fmt::Write>(&self, f: &mut fmt::Formatter<W>) -> fmt::Result {
         match self {
             VolumeFault::Rule(at, rule) => write!(f, "{rule}, at byte {at} of the volume"),
@@ -106,22 +118,30 @@ pub enum PathRule {
 }
 
 impl PathRule {
+    /// The rule's number, 40 to 43.
     pub fn number(self) -> u8
         ensures { result ≡ path_number self }
     {
         self as u8
     }
-}
 
-impl fmt::Display for PathRule {
-    fn fmt<W: fmt::Write>(&self, f: &mut fmt::Formatter<W>) -> fmt::Result {
-        let text = match self {
+    fn sentence(self) -> &'static str
+        ensures { result.now ≡ path_sentence self }
+    {
+        match self {
             PathRule::Component => "a name is missing, or is `.` or `..`",
             PathRule::Missing => "there is no such entry",
             PathRule::NotDirectory => "this is no directory",
             PathRule::NotFile => "this is no regular file",
-        };
-        write!(f, "{}: {text}", self.number())
+        }
+    }
+}
+
+impl fmt::Display for PathRule {
+    ghost output = { λ rule. Some (path_rule_text rule) };
+
+    fn fmt<W: fmt::Write>(&self, f: &mut fmt::Formatter<W>) -> fmt::Result {
+        write!(f, "{}: {}", self.number(), self.sentence())
     }
 }
 
@@ -143,6 +163,8 @@ impl<F> From<(VolumeFault<F>, usize)> for PathFault<F> {
 }
 
 impl<F: fmt::Display> fmt::Display for PathFault<F> {
+    ghost output = { λ fault. path_fault_text F.output fault };
+
     fn fmt<W: fmt::Write>(&self, f: &mut fmt::Formatter<W>) -> fmt::Result {
         match self {
             PathFault::Rule(at, rule) => write!(f, "{rule}, at byte {at} of the path"),
