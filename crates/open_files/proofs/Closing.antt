@@ -1,5 +1,5 @@
 -- Closing files one after another is a use of a mount.
-use Rattle.std.proofs.Common.{◌≡◌, List, [], ◌∷◌, ◌++◌, ℕ, map, refl, sym, ◌∙◌, ap, subst}
+use Rattle.std.proofs.Common.{List, [], ◌∷◌, ◌++◌, refl, ap, subst}
 use Rattle.std.proofs.lemmas.List.{map-append}
 use Rattle.device.specs.declared.question.Question.{Question}
 use Rattle.device.specs.Program.{Meaning, exchanges}
@@ -12,7 +12,6 @@ use Rattle.open_files.specs.Files.{data_of}
 use Rattle.open_files.specs.Steps.{Closed, accepted}
 
 module _ {D R : Type 0} (meaning : D → Meaning R) (moves : D → Question → D → Type 0) where
-
   -- a use goes on with one more call
   used_more : (xs : List (Event R)) (x : Event R) (m : rules.Mounted) (d : D) (k : rules.Mounted) (f : D) (n : rules.Mounted) (e : D)
       → Used meaning moves m d xs k f → Step meaning moves k f x n e → Used meaning moves m d (xs ++ x ∷ []) n e
@@ -34,5 +33,5 @@ module _ {D R : Type 0} (meaning : D → Meaning R) (moves : D → Question → 
         events = before.events ++ x ∷ [];
         used = used_more before.events x m d k f n e before.used step;
         calls = simp map-append (ap (λ calls. calls ++ close (data_of file) ∷ []) before.calls);
-        replies = simp map-append (ap (λ replies. replies ++ accepted closed ∷ []) before.replies)
+        replies = simp map-append (ap (λ replies. replies ++ accepted closed ∷ []) before.replies);
       }

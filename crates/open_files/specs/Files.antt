@@ -1,5 +1,5 @@
 -- What is open: the list of open files, how many opens were accepted, and the mount inside.
-use Rattle.std.specs.Prelude.{◌≡◌, ℕ, List, Option, None, Some, ◌==◌, option_and_then, position, remove, slice_get}
+use Rattle.std.specs.Prelude.{◌≡◌, ℕ, List, Option, None, Some, ◌==◌, position, remove, slice_get}
 use Rattle.mount.specs.declared.mount.Mount.{Mount}
 use Rattle.reader.specs.Calls.{extent_of}
 use Rattle.volume.specs.Use.{Extent}

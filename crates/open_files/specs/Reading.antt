@@ -1,5 +1,5 @@
 -- A file that was read whole, and an entry of a directory.
-use Rattle.std.specs.Prelude.{List, ℕ, [], replicate, Ok, Err, ◌⊎◌}
+use Rattle.std.specs.Prelude.{List, ℕ, replicate, Ok, Err, ◌⊎◌}
 use Rattle.device.specs.declared.question.Question.{Question}
 use Rattle.device.specs.Program.{Meaning}
 use Rattle.layers.specs.declared.fault.StorageFault.{StorageFault}

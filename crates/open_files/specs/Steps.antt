@@ -1,5 +1,5 @@
 -- The calls on open files as steps of their mount, with whole replies.
-use Rattle.std.specs.Prelude.{◌≡◌, ℕ, ◌+◌, ◌-◌, ◌^◌, min, List, [], ◌∷◌, ◌++◌, Option, None, Some, Result, Ok, Err, map, reverse}
+use Rattle.std.specs.Prelude.{◌≡◌, ℕ, ◌+◌, ◌-◌, ◌^◌, min, List, [], ◌∷◌, ◌++◌, None, Some, Result, Ok, Err, map}
 use Rattle.device.specs.declared.question.Question.{Question}
 use Rattle.device.specs.Program.{Meaning}
 use Rattle.layers.specs.declared.fault.StorageFault.{StorageFault}

@@ -1,6 +1,6 @@
 // A whole file, and the entries of a directory.
-ghost use Rattle.std.specs.Prelude.{◌≡◌, ◌<◌, ◌-◌, ◌==◌, Ok, IfErr, IfNone, IfOk, IfSome, length};
-ghost use Rattle.std.specs.List.{before_first};
+ghost use Rattle.std.specs.Prelude.{◌≡◌, ◌<◌, ◌≤◌, ◌-◌, ◌==◌, Ok, IfErr, IfNone, IfOk, IfSome, length, position};
+ghost use Rattle.std.specs.List.{before_first, position_or_len};
 ghost use Rattle.reader.specs.Calls.{extent_of};
 ghost use Rattle.calls.specs.Calls.{list, listed};
 ghost use Rattle.mount.specs.Mount.{Called, device_of, held_of, mounted_of};
@@ -83,12 +83,25 @@ pub struct Listed {
 }
 
 impl Listed {
-    /// The name: the 128 bytes that the mount gave, up to the first zero.
+    fn first_zero(&self) -> Option<usize>
+        ensures { result ≡ position (λ byte. byte == 0) (name_of self.now) }
+    {
+        self.name.iter().position(|byte| *byte == 0)
+    }
+
+    // Where the name ends: at the first zero, or at the end of the buffer.
+    fn name_end(&self) -> usize
+        ensures place { result ≡ position_or_len (λ byte. byte == 0) (name_of self.now) }
+        ensures within { result ≤ 128 }
+    {
+        self.first_zero().unwrap_or(128)
+    }
+
+    /// The name: of the 128 bytes that the mount gave those before the first zero.
     pub fn name(&self) -> &[u8]
         ensures { result.now ≡ before_first (λ byte. byte == 0) (name_of self.now) }
     {
-        let end = self.name.iter().position(|byte| *byte == 0);
-        self.name.get(..end.unwrap_or(128)).unwrap_or(&self.name)
+        &self.name[..self.name_end()]
     }
 }
 

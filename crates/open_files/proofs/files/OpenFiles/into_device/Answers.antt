@@ -1,8 +1,6 @@
-use Rattle.std.proofs.Common.{[], ◌∷◌, ◌++◌, ◌≡◌, ◌≤◌, ◌∙◌, List, ap, append_assoc, reverse, rules, subst, sym, vec_len}
+use Rattle.std.proofs.Common.{[], ◌∷◌, ◌++◌, ◌≡◌, ◌≤◌, ◌∙◌, ap, append_assoc, reverse, rules, subst, sym, vec_len}
 use Rattle.std.proofs.lemmas.List.{append-nil, reverse-append}
 use Rattle.mount.specs.Mount.{device_of, held_of, mounted_of}
-use Rattle.open_files.specs.declared.files.OpenFile.{OpenFile}
-use Rattle.open_files.specs.Files.{mount_of}
 use Rattle.open_files.specs.Steps.{Closed}
 use Rattle.open_files.proofs.Closing.{none_closed, one_more_closed}
 use Rattle.open_files.proofs.files.OpenFiles.into_device.Goals as goal
@@ -27,5 +25,5 @@ loop-file-preserved g c =
     let e = device_of c.give_back.new.mount in
     let closed = one_more_closed meaning moves (reverse others) file m d k f n e c.loop-file.invariant.3 c.give_back.ensures.step in
     let all : c.args.self.files.items ≡ c.pop.new.self.items ++ file ∷ others =
-        c.loop-file.invariant.2 ∙ ap (λ items. items ++ others) (c.in-Some.ensures.items) ∙ append_assoc c.pop.new.self.items (file ∷ []) others in
+    c.loop-file.invariant.2 ∙ ap (λ items. items ++ others) (c.in-Some.ensures.items) ∙ append_assoc c.pop.new.self.items (file ∷ []) others in
     (held, file ∷ others, all, subst (λ files. Closed meaning moves m d files n e) (sym (reverse-append (file ∷ []) others)) closed)
