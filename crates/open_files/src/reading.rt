@@ -1,9 +1,10 @@
 // A whole file, and the entries of a directory.
-ghost use Rattle.std.specs.Prelude.{◌≡◌, ◌<◌, ◌-◌, Ok, IfErr, IfNone, IfOk, IfSome, length};
+ghost use Rattle.std.specs.Prelude.{◌≡◌, ◌<◌, ◌≤◌, ◌-◌, ◌==◌, Ok, IfErr, IfNone, IfOk, IfSome, length, position};
+ghost use Rattle.std.specs.List.{before_first, position_or_len};
 ghost use Rattle.reader.specs.Calls.{extent_of};
 ghost use Rattle.calls.specs.Calls.{list, listed};
 ghost use Rattle.mount.specs.Mount.{Called, device_of, held_of, mounted_of};
-ghost use Rattle.open_files.specs.Reading.{GaveWhole, Refuses, WasRead, missing, name_of};
+ghost use Rattle.open_files.specs.Reading.{GaveNone, GaveWhole, NotRead, Refuses, WasRead, missing, name_of};
 
 use crate::own::give_back;
 use calls::Refusal;
@@ -16,10 +17,12 @@ use std::alloc::Global;
 use std::fmt;
 use volume::{Entry, PathFault, PathRule};
 
-// Why there are no contents.
+/// Why there are no contents.
 #[derive(Debug, Drop)]
 pub enum ContentsFault<R> {
+    /// The mount's refusal, of `open` or of `whole`.
     Refused(Refusal<StorageFault<R>>),
+    /// There is no memory for the bytes.
     Memory,
 }
 
@@ -41,6 +44,7 @@ fn read_whole<H: Digest, D: Device>(
     requires { 0 < held_of mount.old }
     ensures held { held_of mount.new ≡ held_of mount.old - 1 }
     ensures whole { IfOk result (λ bytes. GaveWhole D.meaning D.moves (mounted_of mount.old) (device_of mount.old) (extent_of handle) bytes.items (mounted_of mount.new) (device_of mount.new)) }
+    ensures none { IfErr result (λ why. GaveNone D.meaning D.moves (mounted_of mount.old) (device_of mount.old) (extent_of handle) why (mounted_of mount.new) (device_of mount.new)) }
 {
     let Ok(mut bytes) = vec![in heap; 0u8; handle.size() as usize] else {
         give_back(mount, handle);
@@ -55,7 +59,7 @@ fn read_whole<H: Digest, D: Device>(
     }
 }
 
-// The bytes of the file at a path. No handle is held for it afterwards.
+/// The bytes of the file at a path: the mount's `open`, and then `whole`. Whatever comes of them, no handle is held for it afterwards.
 pub fn contents<H: Digest, D: Device>(
     heap: Global,
     mount: &mut Mount<H, D>,
@@ -63,12 +67,15 @@ pub fn contents<H: Digest, D: Device>(
 ) -> Result<Vec<u8>, ContentsFault<D::Refusal>>
     ensures held { held_of mount.new ≡ held_of mount.old }
     ensures read { IfOk result (λ bytes. WasRead D.meaning D.moves (mounted_of mount.old) (device_of mount.old) path.now bytes.items (mounted_of mount.new) (device_of mount.new)) }
+    ensures none { IfErr result (λ why. NotRead D.meaning D.moves (mounted_of mount.old) (device_of mount.old) path.now why (mounted_of mount.new) (device_of mount.new)) }
 {
-    let handle = mount.open(path).map_err(ContentsFault::Refused)?;
-    read_whole(heap, mount, handle)
+    match mount.open(path) {
+        Ok(handle) => read_whole(heap, mount, handle),
+        Err(refusal) => Err(ContentsFault::Refused(refusal)),
+    }
 }
 
-// An entry of a directory with its name.
+/// An entry of a directory with its name.
 #[derive(Clone, Copy)]
 pub struct Listed {
     pub entry: Entry,
@@ -76,14 +83,29 @@ pub struct Listed {
 }
 
 impl Listed {
-    // The bytes before the first zero.
-    pub fn name(&self) -> &[u8] {
-        let end = self.name.iter().position(|byte| *byte == 0);
-        self.name.get(..end.unwrap_or(128)).unwrap_or(&self.name)
+    fn first_zero(&self) -> Option<usize>
+        ensures { result ≡ position (λ byte. byte == 0) (name_of self.now) }
+    {
+        self.name.iter().position(|byte| *byte == 0)
+    }
+
+    // Where the name ends: at the first zero, or at the end of the buffer.
+    fn name_end(&self) -> usize
+        ensures place { result ≡ position_or_len (λ byte. byte == 0) (name_of self.now) }
+        ensures within { result ≤ 128 }
+    {
+        self.first_zero().unwrap_or(128)
+    }
+
+    /// The name: of the 128 bytes that the mount gave those before the first zero.
+    pub fn name(&self) -> &[u8]
+        ensures { result.now ≡ before_first (λ byte. byte == 0) (name_of self.now) }
+    {
+        &self.name[..self.name_end()]
     }
 }
 
-// The entry with this number in the directory at a path, or none behind the last.
+/// The entry with this number in the directory at a path, counted from 0 as the mount's `list` does, or none behind the last.
 pub fn entry_at<H: Digest, D: Device>(
     mount: &mut Mount<H, D>,
     path: &[u8],

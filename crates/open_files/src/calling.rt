@@ -1,0 +1,151 @@
+// The calls, for files by their numbers.
+ghost use Rattle.std.specs.Prelude.{◌≡◌, ◌+◌, ◌<◌, ◌≤◌, insert, length, replicate, vec_capacity, vec_len};
+ghost use Rattle.open_files.specs.declared.faults.FileFault.TheVariants as fault;
+
+use crate::faults::{FileFault, NotOpen, OpenFault, Opened};
+use crate::files::{OpenFile, OpenFiles};
+use crate::own::give_back;
+use calls::Refusal;
+use device::Device;
+use digest::Digest;
+use layers::StorageFault;
+use volume::{Entry, Start};
+
+// Leaves zeros in the buffer of a call for a file that is not open.
+fn not_open<R>(buf: &mut [u8]) -> FileFault<R>
+    ensures zeros { buf.new ≡ replicate (length buf.old) 0 }
+    ensures fault { result ≡ fault.NotOpen }
+{
+    buf.fill(0);
+    FileFault::NotOpen
+}
+
+// Puts a file back into the place that it was taken from, where there is still room for it.
+fn put_back(files: &mut Vec<OpenFile>, i: usize, file: OpenFile)
+    requires place { i ≤ vec_len files.old }
+    requires room { vec_len files.old < vec_capacity files.old }
+    ensures items { files.new.items ≡ insert files.old.items i file }
+    ensures len { vec_len files.new ≡ vec_len files.old + 1 }
+{
+    match files.insert(i, file) {
+        Ok(()) => {}
+        Err(_) => unreachable!(),
+    }
+}
+
+impl<H: Digest, D: Device> OpenFiles<H, D> {
+    ghost use Rattle.std.specs.Prelude.{◌≡◌, [], Ok, Err, ◌<◌, IfSome, IfErr, OnErr, OnOk, length, replicate, vec_len};
+    ghost use Rattle.calls.specs.Calls as calls_of;
+    ghost use Rattle.mount.specs.Mount.{replied};
+    ghost use Rattle.open_files.specs.Files.{Keeps, Stays, file_of, files_of, opened_of, place_of, without};
+    ghost use Rattle.open_files.specs.Steps.{AsksFor, NoneOpen, Opens, Stepped, SteppedFor, accepted};
+
+    /// The mount's `begin`.
+    pub fn begin(&mut self) -> Result<Start, Refusal<StorageFault<D::Refusal>>>
+        ensures step { Stepped D.meaning D.moves self.old calls_of.begin (replied calls_of.started [] result) self.new }
+        ensures kept { Keeps self.old self.new }
+    {
+        self.mount.begin()
+    }
+
+    /// The mount's `list`.
+    pub fn list(
+        &mut self,
+        path: &[u8],
+        index: usize,
+        buf: &mut [u8],
+    ) -> Result<Entry, Refusal<StorageFault<D::Refusal>>>
+        ensures step { Stepped D.meaning D.moves self.old (calls_of.list path.now index (length buf.old)) (replied calls_of.listed buf.new result) self.new }
+        ensures zeros { OnErr result (buf.new ≡ replicate (length buf.old) 0) }
+        ensures kept { Keeps self.old self.new }
+    {
+        self.mount.list(path, index, buf)
+    }
+
+    /// Opens the file that a path names, and keeps it by the number of accepted opens before it.
+    pub fn open(&mut self, path: &[u8]) -> Result<Opened, OpenFault<D::Refusal>>
+        ensures step { Opens D.meaning D.moves self.old path.now result self.new }
+    {
+        if self.files.reserve(1).is_err() {
+            return Err(OpenFault::Memory);
+        }
+        match self.mount.open(path) {
+            Ok(handle) => {
+                let opened = Opened {
+                    number: self.opened,
+                    start: handle.start(),
+                    size: handle.size(),
+                };
+                let number = self.opened;
+                self.files.push_reserved(OpenFile { number, handle });
+                self.opened = number.saturating_add(1);
+                Ok(opened)
+            }
+            Err(refusal) => Err(OpenFault::Refused(refusal)),
+        }
+    }
+
+    fn find(&self, number: usize) -> Option<usize>
+        ensures place { IfSome result (λ i. i < vec_len self.now.files) }
+        ensures there { result ≡ place_of self.now.files.items number }
+    {
+        self.files.iter().position(|file| file.number == number)
+    }
+
+    /// Reads from an offset of the file of a number, as the mount's `read` does.
+    pub fn read(
+        &mut self,
+        number: usize,
+        from: usize,
+        buf: &mut [u8],
+    ) -> Result<usize, FileFault<D::Refusal>>
+        ensures step { AsksFor D.meaning D.moves self.old number (λ file. calls_of.read file from (length buf.old)) (λ c. calls_of.count c) buf.new result self.new }
+        ensures zeros { OnErr result (buf.new ≡ replicate (length buf.old) 0) }
+        ensures kept { Keeps self.old self.new }
+    {
+        let Some(i) = self.find(number) else {
+            return Err(not_open(buf));
+        };
+        match self.mount.read(&self.files[i].handle, from, buf) {
+            Ok(count) => Ok(count),
+            Err(refusal) => Err(FileFault::Refused(refusal)),
+        }
+    }
+
+    /// Reads the file of a number whole, as the mount's `whole` does, and closes it. Refused, it stays open.
+    pub fn whole(&mut self, number: usize, buf: &mut [u8]) -> Result<(), FileFault<D::Refusal>>
+        ensures step { AsksFor D.meaning D.moves self.old number (λ file. calls_of.whole file (length buf.old)) (λ none. calls_of.all) buf.new result self.new }
+        ensures zeros { OnErr result (buf.new ≡ replicate (length buf.old) 0) }
+        ensures closed { OnOk result (files_of self.new ≡ without (files_of self.old) number) }
+        ensures open { OnErr result (files_of self.new ≡ files_of self.old) }
+        ensures count { opened_of self.new ≡ opened_of self.old }
+    {
+        let Some(i) = self.find(number) else {
+            return Err(not_open(buf));
+        };
+        let OpenFile { number, handle } = self.files.remove(i);
+        match self.mount.whole(handle, buf) {
+            Ok(()) => Ok(()),
+            Err((handle, refusal)) => {
+                put_back(&mut self.files, i, OpenFile { number, handle });
+                Err(FileFault::Refused(refusal))
+            }
+        }
+    }
+
+    /// Closes the file of a number. It is refused only where no such file is open.
+    pub fn close(&mut self, number: usize) -> Result<(), NotOpen>
+        ensures step { OnOk result (SteppedFor D.meaning D.moves self.old number calls_of.close (accepted calls_of.closed) self.new) }
+        ensures closed { OnOk result (files_of self.new ≡ without (files_of self.old) number) }
+        ensures none { OnErr result (NoneOpen self.old number self.new) }
+        ensures open { OnErr result (files_of self.new ≡ files_of self.old) }
+        ensures count { opened_of self.new ≡ opened_of self.old }
+    {
+        let Some(i) = self.find(number) else {
+            return Err(NotOpen);
+        };
+        let OpenFile { number: _, handle } = self.files.remove(i);
+        give_back(&mut self.mount, handle);
+        Ok(())
+    }
+}
