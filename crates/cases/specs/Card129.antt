@@ -1,6 +1,6 @@
 -- A card of 129 data blocks under two levels of the tree, and the path of its last data block, by a toy digest: the salted
 -- digest of a block is what stands in its third slot.
-use Rattle.std.specs.Prelude.{ℕ, cond, List, [], ◌++◌, take, drop, replicate, Ok, Err, Some, ◌==◌}
+use Rattle.std.specs.Prelude.{ℕ, cond, List, ◌++◌, take, drop, replicate, Err, Some, ◌==◌}
 use Rattle.device.specs.declared.question.Area.TheVariants as area
 use Rattle.device.specs.declared.question.Question.{Question}
 use Rattle.device.specs.Answer.{Answer}

@@ -1,19 +1,18 @@
 -- The worked list: trees over 1, 128 and 129 blocks, the path of block 128 of 129, the volume V, one with a wrong sum, and chains
 -- of eight and of nine links.
-use Rattle.std.specs.Prelude.{◌≡◌, ℕ, List, [], ◌∷◌, codes, Ok, Err}
+use Rattle.std.specs.Prelude.{◌≡◌, ℕ, [], ◌∷◌, codes, Ok, Err}
 use Rattle.device.specs.declared.question.Area.TheVariants as area
 use Rattle.device.specs.declared.question.Question.{Question}
 use Rattle.tree.specs.Shape.{levels, tree_blocks}
 use Rattle.layers.specs.declared.fault.Level.TheVariants as level
 use Rattle.layers.specs.declared.fault.Place.{Place}
-use Rattle.layers.specs.declared.fault.StorageFault.{StorageFault}
 use Rattle.layers.specs.declared.fault.StorageFault.TheVariants.{Refused, Mismatch}
 use Rattle.layers.specs.Fault.{number_of, level_number}
 use Rattle.volume.specs.declared.fault.VolumeRule.TheVariants as volume_rule
 use Rattle.volume.specs.declared.fault.PathRule.TheVariants as path_rule
 use Rattle.calls.specs.declared.refusal.MountRule.TheVariants as mount_rule
 use Rattle.calls.specs.declared.refusal.Refusal.TheVariants as refusal
-use Rattle.calls.specs.Calls.{begin, read, started, opened, count, fresh}
+use Rattle.calls.specs.Calls.{read, started, opened, count}
 use Rattle.cases.specs.Reading.{reply, begun}
 use Rattle.cases.specs.Volumes.{v, volume_with, file_a, chain, starting, opening, start_breaks, breaks, no_path}
 use Rattle.cases.specs.Card129.{usual, slots, check_128, asked_128, top, low, last}

@@ -1,5 +1,5 @@
 -- What equations between answers, and between blocks, say.
-use Rattle.std.proofs.Common.{◌≡◌, ℕ, arith, Bool, true, false, List, [], ◌∷◌, Option, Some, None, Ok, Err}
+use Rattle.std.proofs.Common.{◌≡◌, ℕ, arith, true, false, List, [], ◌∷◌, Option, Some, None, Ok, Err}
 use Rattle.device.specs.Answer.{Answer}
 
 pub some_is : {x y : List ℕ} → Some x ≡ Some y → x ≡ y

@@ -8,7 +8,7 @@ use Rattle.layers.specs.declared.fault.StorageFault.{StorageFault}
 use Rattle.layers.specs.declared.fault.StorageFault.TheVariants as storage
 use Rattle.layers.specs.Fault.{data_place}
 use Rattle.layers.specs.Path.{given}
-use Rattle.layers.specs.Publisher.{Twin, Differs, Honest, right_block}
+use Rattle.layers.specs.Publisher.{Twin, Honest, right_block}
 use Rattle.volume.specs.declared.fault.VolumeRule.TheVariants as volume_rule
 use Rattle.volume.specs.declared.fault.VolumeFault.TheVariants as volume
 use Rattle.volume.specs.declared.fault.PathFault.TheVariants as path
@@ -18,7 +18,7 @@ use Rattle.calls.specs.declared.refusal.Refusal.TheVariants.{Mount, Volume, Path
 use Rattle.calls.specs.Calls.{begin, open_file, Reply, started, opened, fresh}
 use Rattle.calls.specs.Image.{named, image_reply, image_state}
 use Rattle.calls.specs.Law.{Event, Agrees, IsToBlame}
-use Rattle.cases.specs.Volumes.{v, file_a}
+use Rattle.cases.specs.Volumes.{file_a}
 use Rattle.mount_cases.specs.Calls.{holding}
 use Rattle.mount_cases.specs.Cards.{data_of, tree_of, card_of_v, card_of_129}
 

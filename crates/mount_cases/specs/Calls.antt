@@ -1,5 +1,5 @@
 -- The six calls: what they answer, and in which order they are refused.
-use Rattle.std.specs.Prelude.{◌≡◌, ℕ, List, [], ◌∷◌, ◌++◌, replicate, codes, Ok, Err, None, Some, false}
+use Rattle.std.specs.Prelude.{◌≡◌, ℕ, [], ◌∷◌, ◌++◌, replicate, codes, Ok, Err, None, Some, false}
 use Rattle.volume.specs.declared.types.Kind.TheVariants.{File}
 use Rattle.volume.specs.Use.{Extent}
 use Rattle.calls.specs.declared.refusal.MountRule.{MountRule}

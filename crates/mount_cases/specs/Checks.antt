@@ -11,7 +11,7 @@ use Rattle.layers.specs.Anchor.{Anchor}
 use Rattle.layers.specs.Fault.{data_place}
 use Rattle.layers.specs.Publisher.{Publisher, anchor_of}
 use Rattle.layers.specs.Verity.{verity}
-use Rattle.mount_cases.specs.Cards.{data_of, tree_of, card_of_v, card_of_129, refusing}
+use Rattle.mount_cases.specs.Cards.{data_of, tree_of, card_of_129, refusing}
 
 -- a device that gives a card's own blocks
 abbrev pub own : Publisher → Meaning ℕ

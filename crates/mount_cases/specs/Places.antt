@@ -1,6 +1,6 @@
 -- The places that a refusal from below gets: the first byte of the fetch, and the component of the path.
 use Rattle.std.specs.Prelude.{◌≡◌, ℕ, List, [], ◌++◌, replicate, codes, Result, Err}
-use Rattle.device.specs.Program.{Meaning, asked, result}
+use Rattle.device.specs.Program.{Meaning, result}
 use Rattle.volume.specs.declared.fault.VolumeFault.TheVariants.{Storage}
 use Rattle.volume.specs.declared.fault.PathFault.TheVariants as path
 use Rattle.volume.specs.Fetches.{by_blocks}

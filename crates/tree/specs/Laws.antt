@@ -1,5 +1,5 @@
 -- What holds of every tree, in words of its own.
-use Rattle.std.specs.Prelude.{◌≡◌, ℕ, suc, ◌+◌, ◌*◌, ◌/◌, ◌%◌, ◌^◌, ◌<◌, ◌≤◌, ◌⊎◌, List, length, take, drop, replicate, ◌≢◌}
+use Rattle.std.specs.Prelude.{◌≡◌, ℕ, suc, ◌+◌, ◌*◌, ◌^◌, ◌<◌, ◌≤◌, ◌⊎◌, List, length, take, drop, replicate, ◌≢◌}
 use Rattle.tree.specs.Shape.{Shape, fanout, levels_of, levels, width, tree_blocks, start}
 use Rattle.tree.specs.Tree.{block_of, in_slot, node, tree, root}
 use Rattle.tree.specs.Path.{held, Leads, above}

@@ -1,5 +1,5 @@
 -- Headers in use: directories that are entered, links that are followed, and files.
-use Rattle.std.specs.Prelude.{◌≡◌, ℕ, List, [], ◌∷◌, ◌++◌, codes, Ok, false}
+use Rattle.std.specs.Prelude.{◌≡◌, [], ◌∷◌, ◌++◌, codes, Ok, false}
 use Rattle.volume.specs.declared.types.Kind.TheVariants.{HardLink}
 use Rattle.volume.specs.declared.fault.VolumeRule.TheVariants.{Range, Info, Data, LinkedDirectory}
 use Rattle.volume.specs.declared.fault.PathRule.TheVariants.{Missing, NotDirectory, NotFile}

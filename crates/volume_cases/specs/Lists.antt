@@ -1,10 +1,9 @@
 -- Lists of headers: which entry is meant by a name or a number.
 use Rattle.std.specs.Prelude.{◌≡◌, ℕ, List, [], ◌∷◌, ◌++◌, codes, Ok, false}
-use Rattle.volume.specs.declared.types.Kind.TheVariants.{File, Directory}
-use Rattle.volume.specs.declared.fault.VolumeRule.TheVariants.{HeaderSum}
-use Rattle.volume.specs.declared.fault.PathRule.TheVariants.{Missing, NotDirectory}
+use Rattle.volume.specs.declared.types.Kind.TheVariants.{File}
+use Rattle.volume.specs.declared.fault.PathRule.TheVariants.{Missing}
 use Rattle.calls.specs.Calls.{opened, listed}
-use Rattle.cases.specs.Volumes.{v, header_named, header_words, volume_of, opening, listing, breaks, no_path}
+use Rattle.cases.specs.Volumes.{v, header_named, header_words, volume_of, opening, listing, no_path}
 
 -- entries `a`, `.` and `a` again, of 0, 1 and 2 bytes, and `..`
 abbrev pub two_of_a_name : List ℕ

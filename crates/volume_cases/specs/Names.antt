@@ -1,5 +1,5 @@
 -- Names of entries: one byte to 127, each printable and no slash.
-use Rattle.std.specs.Prelude.{◌≡◌, ℕ, List, [], ◌∷◌, ◌++◌, replicate, codes, Ok, false}
+use Rattle.std.specs.Prelude.{◌≡◌, [], ◌∷◌, ◌++◌, replicate, codes, Ok, false}
 use Rattle.volume.specs.declared.types.Kind.TheVariants.{File}
 use Rattle.volume.specs.declared.fault.VolumeRule.TheVariants.{Name}
 use Rattle.calls.specs.Calls.{opened, listed}

@@ -1,10 +1,7 @@
 -- Starts of volumes: what is accepted, and which rule is broken where.
-use Rattle.std.specs.Prelude.{◌≡◌, ℕ, List, [], ◌∷◌, ◌++◌, replicate, codes, Result, Ok, Err}
+use Rattle.std.specs.Prelude.{◌≡◌, ℕ, List, [], ◌∷◌, ◌++◌, replicate, Ok}
 use Rattle.volume.specs.declared.fault.VolumeRule.TheVariants.{Text, Size, Sum, VolumeName}
-use Rattle.volume.specs.declared.fault.VolumeFault.TheVariants as volume
-use Rattle.calls.specs.declared.refusal.Refusal.TheVariants as refusal
-use Rattle.calls.specs.Calls.{started, begin, fresh, Accepted}
-use Rattle.volume.specs.Fetches.{by_blocks}
+use Rattle.calls.specs.Calls.{started}
 use Rattle.cases.specs.Reading.{image_of}
 use Rattle.cases.specs.Volumes.{volume_with, header_words, volume_before, named_volume, volume_of, starting, start_breaks}
 

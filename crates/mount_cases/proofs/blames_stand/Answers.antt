@@ -1,4 +1,4 @@
-use Rattle.std.proofs.Common.{◌≡◌, ◌⊎◌, ℕ, List, [], ◌∷◌, length, take, slice_index, Ok, Err, Result, IsSome, refl, sym, ap, ◌∙◌, inl, inr}
+use Rattle.std.proofs.Common.{◌≡◌, ◌⊎◌, ℕ, [], ◌∷◌, length, take, slice_index, Ok, Result, IsSome, refl, sym, ap, ◌∙◌, inl, inr}
 use Rattle.tree.specs.Shape.{levels_from, levels_of, width, blocks_from}
 use Rattle.tree.specs.Tree.{node, level, lowest, tree, root}
 use Rattle.layers.specs.Path.{given}
@@ -12,10 +12,10 @@ use Rattle.volume.specs.Walk.{seek}
 use Rattle.volume.specs.Use.{enter, follow}
 use Rattle.volume.specs.Paths.{enter_all, file_at, open_path, list_path}
 use Rattle.calls.specs.declared.refusal.Refusal.{Refusal}
-use Rattle.calls.specs.Calls.{Given, started, Reply, begin, begin_rules, open_rules, fresh}
-use Rattle.calls.specs.Image.{named, image_reply}
+use Rattle.calls.specs.Calls.{Given, started, Reply, begin_rules, open_rules}
+use Rattle.calls.specs.Image.{named}
 use Rattle.calls.specs.Law.{IsToBlame}
-use Rattle.mount_cases.specs.Cards.{data_of, tree_of, card_of_v, card_of_129}
+use Rattle.mount_cases.specs.Cards.{data_of, tree_of, card_of_129}
 use Rattle.mount_cases.specs.Blames.{refused_of, low, right_low, twin_of_low, wrong_low, begin_with}
 use Rattle.mount_cases.proofs.Plain.{some_is, none_is, ok_is, err_is, not_err, five_is_not_seven, two_is_not_one, not_96, false_is_not_true}
 use Rattle.mount_cases.proofs.blames_stand.Goals as goal
