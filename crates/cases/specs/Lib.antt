@@ -1,4 +1,6 @@
 pub mod Reading
-pub mod Cases
+pub mod Volumes
+pub mod Card129
+pub mod Worked
 pub mod SmallCard
 pub mod MixedCard

@@ -1,13 +1,13 @@
-// Worked cases of the volume's rules, proved by computation.
+// Worked cases of the rules, proved by computation.
 #![tactic(auto)]
 
-ghost use Rattle.cases.specs.Cases.{Cases};
 ghost use Rattle.cases.specs.MixedCard.{MixedCard};
 ghost use Rattle.cases.specs.SmallCard.{SmallCard};
+ghost use Rattle.cases.specs.Worked.{WorkedList};
 
-// A volume of one file, a broken one, and chains of links.
-pub fn cases_stand()
-    ensures { Cases }
+// The worked list, by the rules of tree, path check, volume and calls.
+pub fn worked_list_stands()
+    ensures { WorkedList }
 {}
 
 // Cards that genromfs made, read by the rules.

@@ -5,4 +5,3 @@ pub mod Slots
 pub mod Paths
 pub mod Places
 pub mod Binding
-pub mod Worked

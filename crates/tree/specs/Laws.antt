@@ -1,5 +1,5 @@
 -- What holds of every tree, in words of its own.
-use Rattle.std.specs.Prelude.{◌≡◌, ℕ, suc, ◌+◌, ◌*◌, ◌/◌, ◌%◌, ◌^◌, ◌<◌, ◌≤◌, ◌⊎◌, List, length, take, drop, replicate, ◌≢◌}
+use Rattle.std.specs.Prelude.{◌≡◌, ℕ, suc, ◌+◌, ◌*◌, ◌^◌, ◌<◌, ◌≤◌, ◌⊎◌, List, length, take, drop, replicate, ◌≢◌}
 use Rattle.tree.specs.Shape.{Shape, fanout, levels_of, levels, width, tree_blocks, start}
 use Rattle.tree.specs.Tree.{block_of, in_slot, node, tree, root}
 use Rattle.tree.specs.Path.{held, Leads, above}
@@ -56,24 +56,3 @@ abbrev pub TreeBinds : Type 0
 TreeBinds =
     (h : List ℕ → List ℕ) (s : Shape) (size : ℕ) → Sound h s size → (a b : List ℕ)
     → length a ≡ s.blocks * s.data_block → length b ≡ s.blocks * s.data_block → root h s a ≡ root h s b → (a ≡ b) ⊎ Collision h s a b
-
--- 128 slots of 32 bytes in a block of 4096, over n data blocks
-abbrev pub usual : ℕ → Shape
-usual n = record { data_block = 4096; hash_block = 4096; blocks = n; slot = 32 }
-
--- worked cases
-pub record Cases : Type 0 where
-  -- one data block has no tree: the root is its salted digest
-  pub levels_1 : levels (usual 1) ≡ 0
-  pub blocks_1 : tree_blocks (usual 1) ≡ 0
-  -- a full tree block
-  pub levels_128 : levels (usual 128) ≡ 1
-  pub blocks_128 : tree_blocks (usual 128) ≡ 1
-  -- one more data block makes a second level
-  pub levels_129 : levels (usual 129) ≡ 2
-  pub blocks_129 : tree_blocks (usual 129) ≡ 3
-  -- of its last data block, number 128: slot 1 of the top block, which is block 0, then slot 0 of block 2
-  pub upper_block : start (usual 129) 1 + 128 / 128 ^ 2 ≡ 0
-  pub upper_slot : ◌≡◌ {A = ℕ} (128 / 128 ^ 1 % 128) 1
-  pub lower_block : start (usual 129) 0 + 128 / 128 ^ 1 ≡ 2
-  pub lower_slot : ◌≡◌ {A = ℕ} (128 / 128 ^ 0 % 128) 0

@@ -1,5 +1,5 @@
 // Laws of the definitions; each function's contract is one.
-ghost use Rattle.tree.specs.Laws.{Cases, LevelsStand, PathsStand, PlacesStand, SlotsStand, TreeBinds};
+ghost use Rattle.tree.specs.Laws.{LevelsStand, PathsStand, PlacesStand, SlotsStand, TreeBinds};
 
 // There are enough levels for every block, and no more than that.
 pub fn levels_stand()
@@ -24,9 +24,4 @@ pub fn paths_stand()
 // Two images of one length with one root are equal, or two different blocks have one salted digest.
 pub fn tree_binds()
     ensures { TreeBinds }
-{}
-
-// Trees over 1, 128 and 129 data blocks.
-pub fn cases_stand()
-    ensures { Cases }
 {}

@@ -3,4 +3,4 @@
 
 mod laws;
 
-pub use laws::{cases_stand, levels_stand, paths_stand, places_stand, slots_stand, tree_binds};
+pub use laws::{levels_stand, paths_stand, places_stand, slots_stand, tree_binds};

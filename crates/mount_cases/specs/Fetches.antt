@@ -1,0 +1,40 @@
+-- Fetches by blocks: what is asked for, and what bytes are taken of it.
+use Rattle.std.specs.Prelude.{◌≡◌, ℕ, List, [], ◌∷◌, codes, Ok, Err}
+use Rattle.device.specs.Answer.{Answer}
+use Rattle.device.specs.Program.{asked, result}
+use Rattle.volume.specs.Fetches.{fetch_blocks}
+use Rattle.calls.specs.Calls.{begin, read, list}
+use Rattle.calls.specs.Mount.{mount}
+use Rattle.cases.specs.Volumes.{v, file_a}
+use Rattle.mount_cases.specs.Cards.{data_of, giving, all_but, mount_of_v, begun_mount}
+
+-- three blocks of four bytes
+abbrev pub twelve : List ℕ
+twelve = codes "abcdefghijkl"
+
+abbrev pub fetched : ℕ → ℕ → Answer ℕ
+fetched from n = result (giving 4 twelve) (fetch_blocks 4 from n)
+
+pub record FetchCases : Type 0 where
+  -- each block that is touched is asked for once, in rising order
+  pub asks_two : asked (giving 512 v) (fetch_blocks 512 500 24) ≡ data_of 512 0 ∷ data_of 512 1 ∷ []
+  pub asks_three : asked (giving 512 v) (fetch_blocks 512 511 514) ≡ data_of 512 0 ∷ data_of 512 1 ∷ data_of 512 2 ∷ []
+  pub asks_one : asked (giving 512 v) (fetch_blocks 512 512 512) ≡ data_of 512 1 ∷ []
+  pub asks_last_byte : asked (giving 512 v) (fetch_blocks 512 1023 1) ≡ data_of 512 1 ∷ []
+  pub asks_one_more : asked (giving 512 v) (fetch_blocks 512 512 513) ≡ data_of 512 1 ∷ data_of 512 2 ∷ []
+  -- no bytes ask nothing, at a block's start and within it
+  pub none_at_start : asked (giving 512 v) (fetch_blocks 512 512 0) ≡ []
+  pub none_within : asked (giving 512 v) (fetch_blocks 512 500 0) ≡ []
+  pub no_bytes : fetched 5 0 ≡ Ok []
+  -- the bytes
+  pub within : fetched 5 2 ≡ Ok (codes "fg")
+  pub across : fetched 3 6 ≡ Ok (codes "defghi")
+  pub whole_block : fetched 4 4 ≡ Ok (codes "efgh")
+  -- the first refusal ends a fetch, and nothing is asked after it
+  pub refused : result (all_but 1 4 twelve) (fetch_blocks 4 3 6) ≡ Err 7
+  pub none_after : asked (all_but 1 4 twelve) (fetch_blocks 4 3 6) ≡ data_of 4 0 ∷ data_of 4 1 ∷ []
+  -- of V, begin asks for its block, and begin again, a list and a read ask nothing, as the cache has it
+  pub begin_asks : asked (giving 512 v) (mount mount_of_v begin) ≡ data_of 512 0 ∷ []
+  pub begin_again_asks : asked (giving 512 v) (mount begun_mount begin) ≡ []
+  pub list_asks : asked (giving 512 v) (mount begun_mount (list [] 0 128)) ≡ []
+  pub read_asks : asked (giving 512 v) (mount begun_mount (read file_a 0 3)) ≡ []

@@ -1,0 +1,10 @@
+pub mod Cards
+pub mod Fetches
+pub mod Places
+pub mod Calls
+pub mod States
+pub mod Numbers
+pub mod Checks
+pub mod Caches
+pub mod Trees
+pub mod Blames
