@@ -1,15 +1,12 @@
 -- The paths that are asked for by some blocks, by a fetch, and by a program of fetches.
-use Rattle.std.proofs.Common.{◌≡◌, ℕ, zero, suc, ◌+◌, ◌-◌, ◌*◌, ◌/◌, ◌%◌, ◌<◌, ◌≤◌, true, eqb, List, [], ◌∷◌, ◌++◌, length, map, take, drop, Option, Some, Result, Ok, Err, refl, sym, ap, ap₂, ◌∙◌, subst, inl, inr, append_assoc, mul-le-mul_right, arith}
+use Rattle.std.proofs.Common.{◌≡◌, ℕ, zero, suc, ◌+◌, ◌-◌, ◌*◌, ◌/◌, ◌%◌, ◌<◌, ◌≤◌, true, eqb, List, [], ◌∷◌, ◌++◌, map, take, drop, Option, Some, Result, Ok, Err, refl, sym, ap, ap₂, ◌∙◌, subst, inl, inr, mul-le-mul_right, arith}
 use Rattle.std.specs.List.{AllByRecursion}
 use Rattle.std.proofs.lemmas.Bool.{cond-true, cond-false, cases_eq, eq-eqb, ne_eqb}
 use Rattle.std.proofs.lemmas.List.{append-nil}
 use Rattle.std.proofs.lemmas.Nat.{mod_below, div-add-mod'}
 use Rattle.std.proofs.Math.Nat.{div-mul-le_self}
-use Rattle.device.specs.declared.question.Area.TheVariants as area
-use Rattle.device.specs.declared.question.Question.{Question}
 use Rattle.device.specs.Answer.{Answer}
-use Rattle.device.specs.Program.{Program, done, ask, bind, Exchange}
-use Rattle.tree.specs.Shape.{levels}
+use Rattle.device.specs.Program.{Program, done, bind, Exchange}
 use Rattle.layers.specs.declared.fault.StorageFault.{StorageFault}
 use Rattle.layers.specs.Anchor.{Anchor}
 use Rattle.layers.specs.Verity.{is_block}
@@ -18,7 +15,7 @@ use Rattle.layers.proofs.Blocks.{within}
 use Rattle.volume.specs.Fetches.{Fetches, give, refuse, fetch, blocks, touched, fetch_blocks, by_blocks}
 use Rattle.volume.proofs.Clean.{Clean}
 use Rattle.calls.specs.Mount.{image_length}
-use Rattle.calls.specs.Paths.{Path, Fetch, of_paths, of_fetches, Rising, Touches, IsWhole, EndsCut, Ends, IsAsked, Makes}
+use Rattle.calls.specs.Paths.{Path, Fetch, of_paths, of_fetches, Rising, Touches, IsWhole, Ends, IsAsked, Makes}
 use Rattle.calls.proofs.Fetching.{touched_room}
 use Rattle.calls.proofs.Replays.{Served, below, below-append, Replays, replays-bind, replays-put}
 use Rattle.calls.proofs.Serving.{IsServed, Serves}

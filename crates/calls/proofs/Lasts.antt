@@ -1,5 +1,5 @@
 -- The last exchange, and the fault that names its block, through what a program comes to.
-use Rattle.std.proofs.Common.{◌≡◌, ℕ, List, [], ◌∷◌, ◌++◌, Option, None, Some, IfSome, IfErr, Result, Ok, Err, sym, subst, inl, inr}
+use Rattle.std.proofs.Common.{◌≡◌, ℕ, List, [], ◌∷◌, ◌++◌, Option, None, Some, IfSome, IfErr, Result, Ok, Err, sym, subst, inr}
 use Rattle.std.proofs.lemmas.List.{append-nil}
 use Rattle.device.specs.Answer.{Answer}
 use Rattle.device.specs.Program.{Exchange}

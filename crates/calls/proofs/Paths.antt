@@ -1,8 +1,8 @@
 -- The paths that are asked for by a call of a mount, and by a use.
-use Rattle.std.proofs.Common.{◌≡◌, ℕ, ◌<◌, ◌≤◌, List, [], ◌∷◌, Option, Some, Result, Ok, Err, refl, sym, ap, ◌∙◌, subst}
+use Rattle.std.proofs.Common.{◌≡◌, ℕ, ◌<◌, ◌≤◌, List, [], ◌∷◌, Option, Some, Result, Ok, Err, refl, sym, ◌∙◌, subst}
 use Rattle.device.specs.declared.question.Question.{Question}
 use Rattle.device.specs.Answer.{Answer}
-use Rattle.device.specs.Program.{Program, Meaning, Exchange, after, result, asked, exchanges}
+use Rattle.device.specs.Program.{Meaning, Exchange, after, result, asked, exchanges}
 use Rattle.device.specs.Layer.{through}
 use Rattle.device.proofs.Runs.{Onward, ran-end}
 use Rattle.device.proofs.Exchanges.{exchanges-put, result-put}

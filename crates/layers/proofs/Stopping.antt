@@ -1,10 +1,10 @@
 -- Where the way down to a data block stops, and with which fault.
-use Rattle.std.proofs.Common.{◌≡◌, ◌≢◌, ℕ, zero, suc, ◌<◌, ◌≤◌, Bool, true, false, cond, List, [], ◌∷◌, length, map, take, Option, None, Some, IfSome, Ok, Err, refl, sym, ap, ap₂, ◌∙◌, subst, inl, inr, arith, bytes_eq}
+use Rattle.std.proofs.Common.{◌≡◌, ◌≢◌, ℕ, zero, suc, ◌<◌, ◌≤◌, true, cond, List, [], ◌∷◌, length, map, take, Option, None, Some, IfSome, Ok, Err, refl, sym, ap, ap₂, ◌∙◌, subst, inl, inr, arith, bytes_eq}
 use Rattle.std.proofs.lemmas.Bool.{cond-true}
 use Rattle.std.proofs.lemmas.Slice.Eq.{bytes_eq-Decides}
 use Rattle.device.specs.declared.question.Question.{Question}
 use Rattle.device.specs.Answer.{Answer}
-use Rattle.device.specs.Program.{Program, Meaning, Exchange, after, result, exchanges}
+use Rattle.device.specs.Program.{Meaning, Exchange, after, result, exchanges}
 use Rattle.tree.specs.Shape.{fanout, levels}
 use Rattle.layers.specs.declared.fault.Place.{Place}
 use Rattle.layers.specs.declared.fault.StorageFault.{StorageFault}
@@ -12,7 +12,7 @@ use Rattle.layers.specs.declared.fault.StorageFault.TheVariants.{Refused, Mismat
 use Rattle.layers.specs.Anchor.{Anchor}
 use Rattle.layers.specs.Fault.{data_place, place_of, Lies}
 use Rattle.layers.specs.Verity.{tree_place, question_at, next_digest, checked, go_on, walk, verity, is_block}
-use Rattle.layers.specs.Path.{data_question, tree_question, path_questions, GivenDown, IsPath, Fails, IsCut}
+use Rattle.layers.specs.Path.{data_question, tree_question, path_questions, GivenDown, Fails, IsCut}
 use Rattle.layers.specs.Judged.{IsFor, Last}
 use Rattle.layers.specs.Laws.{Stops, NamesLast, PathsStop}
 use Rattle.layers.proofs.Tests.{tested, block-parts}
