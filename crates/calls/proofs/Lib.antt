@@ -7,6 +7,7 @@ pub mod States
 pub mod Steps
 pub mod Replays
 pub mod Serving
+pub mod Lasts
 pub mod Asking
 pub mod Paths
 pub mod Runs

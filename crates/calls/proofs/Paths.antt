@@ -1,8 +1,8 @@
 -- The paths that are asked for by a call of a mount, and by a use.
-use Rattle.std.proofs.Common.{◌≡◌, ℕ, ◌<◌, ◌≤◌, List, [], ◌∷◌, Option, Some, Result, Ok, Err, refl, sym, ap, ◌∙◌, subst}
+use Rattle.std.proofs.Common.{◌≡◌, ℕ, ◌<◌, ◌≤◌, List, [], ◌∷◌, Option, Some, Result, Ok, Err, refl, sym, ◌∙◌, subst}
 use Rattle.device.specs.declared.question.Question.{Question}
 use Rattle.device.specs.Answer.{Answer}
-use Rattle.device.specs.Program.{Program, Meaning, Exchange, after, result, asked, exchanges}
+use Rattle.device.specs.Program.{Meaning, Exchange, after, result, asked, exchanges}
 use Rattle.device.specs.Layer.{through}
 use Rattle.device.proofs.Runs.{Onward, ran-end}
 use Rattle.device.proofs.Exchanges.{exchanges-put, result-put}
@@ -22,6 +22,7 @@ use Rattle.calls.proofs.Within.{Fits, call-clean}
 use Rattle.calls.proofs.States.{call_keeps}
 use Rattle.calls.proofs.Replays.{Replays, went}
 use Rattle.calls.proofs.Serving.{Serves, store-serves}
+use Rattle.calls.proofs.Lasts.{HoldsLast, named_last}
 use Rattle.calls.proofs.Asking.{program-made}
 
 -- what a fetch's answer leads to
@@ -66,7 +67,7 @@ module _ {R : Type 0} (a : Anchor) (wide : 0 < fanout a.shape) (some : 0 < a.sha
       let made = program-made a some holds (call_rules (image_length a.shape) m.state call) (call-clean (StorageFault R) (image_length a.shape) room m.state fits call) w.all end.0 w.served replays in
       let here : Paths m.state call (put end) (exchanges meaning program) =
       record {
-        asks = record { fetches = made.fetches; result = end.0; makes = made.makes; replied = refl; each = made.asked; exchanged = w.exchanged ∙ made.exchanged };
+        asks = record { fetches = made.fetches; result = end.0; makes = made.makes; replied = refl; each = made.asked; exchanged = w.exchanged ∙ made.exchanged; ends = named_last a.shape call end.0 (exchanges meaning program) (subst (HoldsLast a.shape holds end.0) (sym w.exchanged) made.held) };
         told = w.keeps;
         state = refl;
         fits = fits-made m.state fits call made.fetches end.0 made.makes;

@@ -6,7 +6,7 @@ use Rattle.std.proofs.lemmas.Bool.{false≢true}
 use Rattle.std.proofs.lemmas.List.{map-append}
 use Rattle.device.specs.declared.question.Question.{Question}
 use Rattle.device.specs.Answer.{Answer}
-use Rattle.device.specs.Program.{Meaning, Exchange, Sized, after, result, asked, exchanges}
+use Rattle.device.specs.Program.{Meaning, Exchange, Sized, exchanges}
 use Rattle.device.specs.Run.{Along}
 use Rattle.device.proofs.Runs.{Onward}
 use Rattle.device.proofs.Exchanges.{questions-asked, ran-along, along-more}
@@ -18,7 +18,7 @@ use Rattle.layers.proofs.Judging.{no_twin, wrong, same_block, some_of}
 use Rattle.calls.specs.Calls.{State, Reply, fresh}
 use Rattle.calls.specs.Mount.{Mounted, made, image_length, mount}
 use Rattle.calls.specs.Image.{image_reply, image_state, named}
-use Rattle.calls.specs.Law.{Event, Step, Used, all_exchanges, rules_ask, Agrees, IsToBlame, LawOfRuns, IsImage, HonestIsImage}
+use Rattle.calls.specs.Law.{Event, Used, all_exchanges, rules_ask, Agrees, IsToBlame, LawOfRuns, IsImage, HonestIsImage}
 use Rattle.calls.proofs.Lift.{none-first, none-second}
 use Rattle.calls.proofs.Stores.{IsTold, AllRight}
 use Rattle.calls.proofs.Within.{Fits}

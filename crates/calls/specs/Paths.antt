@@ -6,12 +6,13 @@ use Rattle.device.specs.Program.{Exchange}
 use Rattle.tree.specs.Shape.{levels}
 use Rattle.layers.specs.declared.fault.StorageFault.{StorageFault}
 use Rattle.layers.specs.Anchor.{Anchor}
-use Rattle.layers.specs.Fault.{place_of, Lies}
 use Rattle.layers.specs.Path.{IsPath, IsCut}
+use Rattle.layers.specs.Judged.{IsFor, Last}
 use Rattle.volume.specs.Fetches.{Fetches, give, refuse, fetch}
 use Rattle.calls.specs.declared.refusal.Refusal.{Refusal}
 use Rattle.calls.specs.Calls.{Call, State, Accepted, Reply, call_rules, reply_of}
 use Rattle.calls.specs.Mount.{image_length}
+use Rattle.calls.specs.Image.{named}
 
 -- a data block that the device was asked for, and what it was asked and answered on the way down to it
 pub record Path (R : Type 0) : Type 0 where
@@ -49,14 +50,13 @@ pub record Touches (d from n k : ℕ) : Type 0 where
 abbrev pub IsWhole : {R : Type 0} → Anchor → Path R → Type 0
 IsWhole a path = (bytes : List ℕ) × IsPath a path.block (levels a.shape) a.root bytes path.exchanges
 
--- all are whole but the last, which is cut where a block fails with this fault, and that lies on the level that the fault names
+-- all are whole but the last, which is cut where a block fails with this fault
 pub record EndsCut {R : Type 0} (a : Anchor) (fault : StorageFault R) (paths : List (Path R)) : Type 0 where
   pub before : List (Path R)
   pub last : Path R
   pub all : paths ≡ before ++ last ∷ []
   pub whole : AllByRecursion (IsWhole a) before
   pub cut : IsCut a last.block (levels a.shape) a.root fault last.exchanges
-  pub lies : IfSome (place_of fault) (Lies a.shape)
 
 abbrev pub Ends : {R : Type 0} → Anchor → Answer (StorageFault R) → List (Path R) → Type 0
 Ends a (Ok bytes) paths = AllByRecursion (IsWhole a) paths
@@ -90,3 +90,5 @@ pub record AsksPaths {R : Type 0} (a : Anchor) (s : State) (call : Call) (reply 
   pub replied : reply ≡ reply_of call result
   pub each : AllByRecursion (IsAsked a) fetches
   pub exchanged : xs ≡ of_fetches fetches
+  -- a storage fault names the block of the last one, and the level on which that lies
+  pub ends : IfSome (named reply.answer) (λ place. Last (IsFor a.shape place) xs)

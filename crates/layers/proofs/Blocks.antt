@@ -6,7 +6,7 @@ use Rattle.tree.specs.Shape.{Shape, fanout, levels, width, blocks_from, tree_blo
 use Rattle.tree.specs.Tree.{block_of, node, tree}
 use Rattle.tree.proofs.Places.{place}
 use Rattle.tree.proofs.Widths.{above_data}
-use Rattle.layers.specs.Fault.{data_place, Lies}
+use Rattle.layers.specs.Fault.{Lies}
 use Rattle.layers.specs.Verity.{tree_place}
 use Rattle.layers.specs.Path.{data_question, tree_question}
 use Rattle.layers.specs.Publisher.{Publisher, Whole, right_block}

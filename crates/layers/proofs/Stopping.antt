@@ -1,23 +1,29 @@
 -- Where the way down to a data block stops, and with which fault.
-use Rattle.std.proofs.Common.{◌≡◌, ◌≢◌, ℕ, zero, suc, ◌<◌, ◌≤◌, Bool, true, false, cond, List, [], ◌∷◌, length, map, take, Some, IfSome, Ok, Err, refl, sym, ap, ap₂, ◌∙◌, subst, inl, inr, arith, bytes_eq}
+use Rattle.std.proofs.Common.{◌≡◌, ◌≢◌, ℕ, zero, suc, ◌<◌, ◌≤◌, true, cond, List, [], ◌∷◌, length, map, take, Option, None, Some, IfSome, Ok, Err, refl, sym, ap, ap₂, ◌∙◌, subst, inl, inr, arith, bytes_eq}
 use Rattle.std.proofs.lemmas.Bool.{cond-true}
 use Rattle.std.proofs.lemmas.Slice.Eq.{bytes_eq-Decides}
 use Rattle.device.specs.declared.question.Question.{Question}
 use Rattle.device.specs.Answer.{Answer}
-use Rattle.device.specs.Program.{Program, Meaning, Exchange, after, result, exchanges}
+use Rattle.device.specs.Program.{Meaning, Exchange, after, result, exchanges}
 use Rattle.tree.specs.Shape.{fanout, levels}
 use Rattle.layers.specs.declared.fault.Place.{Place}
 use Rattle.layers.specs.declared.fault.StorageFault.{StorageFault}
 use Rattle.layers.specs.declared.fault.StorageFault.TheVariants.{Refused, Mismatch}
 use Rattle.layers.specs.Anchor.{Anchor}
 use Rattle.layers.specs.Fault.{data_place, place_of, Lies}
-use Rattle.layers.specs.Verity.{tree_place, next_digest, checked, go_on, walk, verity, is_block}
-use Rattle.layers.specs.Path.{data_question, tree_question, path_questions, GivenDown, IsPath, Fails, IsCut}
-use Rattle.layers.specs.Laws.{Stops, NamesLevel, PathsStop}
+use Rattle.layers.specs.Verity.{tree_place, question_at, next_digest, checked, go_on, walk, verity, is_block}
+use Rattle.layers.specs.Path.{data_question, tree_question, path_questions, GivenDown, Fails, IsCut}
+use Rattle.layers.specs.Judged.{IsFor, Last}
+use Rattle.layers.specs.Laws.{Stops, NamesLast, PathsStop}
 use Rattle.layers.proofs.Tests.{tested, block-parts}
 use Rattle.layers.proofs.Blocks.{tree-lies}
 use Rattle.layers.proofs.Descent.{further, at}
 use Rattle.layers.proofs.Paths.{UpperOf, accepted, accepts, along, back}
+
+-- what holds where there is something, put into something else
+pub if_each : {X : Type 0} (P Q : X → Type 0) (o : Option X) → ((x : X) → P x → Q x) → IfSome o P → IfSome o Q
+if_each P Q None on h = tt
+if_each P Q (Some x) on h = on x h
 
 module _ {R : Type 0} (a : Anchor) where
   -- a block is refused exactly where it fails
@@ -47,8 +53,9 @@ module _ {R : Type 0} (a : Anchor) where
   fails-place place want (Err refusal) fault is = ap place_of is
   fails-place place want (Ok block) fault (other, is) = ap place_of is
 
-  fails-lies : (place : Place) (want : List ℕ) (answer : Answer R) (fault : StorageFault R) → Lies a.shape place → Fails a place want answer fault → IfSome (place_of fault) (Lies a.shape)
-  fails-lies place want answer fault lies bad = subst (λ o. IfSome o (Lies a.shape)) (sym (fails-place place want answer fault bad)) lies
+  names-for : (place : Place) (n : ℕ) (want : List ℕ) (x : Exchange R) (fault : StorageFault R) → Lies a.shape place → x.question ≡ question_at place n → Fails a place want x.answer fault → IfSome (place_of fault) (λ p. IsFor a.shape p x)
+  names-for place n want x fault lies asked bad =
+      subst (λ o. IfSome o (λ p. IsFor a.shape p x)) (sym (fails-place place want x.answer fault bad)) (ap (λ q. q.area) asked, ap (λ q. q.block) asked, lies)
 
   module _ (k : ℕ) where
     abbrev IsCutFrom : ℕ → List ℕ → StorageFault R → List (Exchange R) → Type 0
@@ -111,14 +118,20 @@ module _ {R : Type 0} (a : Anchor) where
     whole-length (suc i) [] bytes xs down = absurd down
     whole-length (suc i) (b ∷ blocks) bytes xs (rest, is, down) = ap length is ∙ ap suc (whole-length i blocks bytes rest down)
 
-    -- the block that a fault names lies on its level
-    cut-lies : 0 < fanout a.shape → k < a.shape.blocks → (i : ℕ) → i ≤ levels a.shape → (want : List ℕ) (fault : StorageFault R) (xs : List (Exchange R)) → IsCutFrom i want fault xs → IfSome (place_of fault) (Lies a.shape)
-    cut-lies pos there i low want fault [] broken = absurd broken
-    cut-lies pos there zero low want fault (x ∷ xs) (asked, none, bad) = fails-lies (data_place k) want x.answer fault there bad
-    cut-lies pos there (suc i) low want fault (x ∷ xs) (asked, inl (none, bad)) =
-        fails-lies (tree_place a.shape k i) want x.answer fault (tree-lies a.shape pos k i there (omega arith)) bad
-    cut-lies pos there (suc i) low want fault (x ∷ xs) (asked, inr (block, was, same, below)) =
-        cut-lies pos there i (omega arith) (next_digest a k i block) fault xs below
+    -- a fault names the block of the last exchange
+    abbrev NamesLastOf : StorageFault R → List (Exchange R) → Type 0
+    NamesLastOf fault xs = IfSome (place_of fault) (λ place. Last (IsFor a.shape place) xs)
+
+    cut-last : 0 < fanout a.shape → k < a.shape.blocks → (i : ℕ) → i ≤ levels a.shape → (want : List ℕ) (fault : StorageFault R) (xs : List (Exchange R)) → IsCutFrom i want fault xs → NamesLastOf fault xs
+    cut-last pos there i low want fault [] broken = absurd broken
+    cut-last pos there zero low want fault (x ∷ xs) (asked, none, bad) =
+        if_each (λ p. IsFor a.shape p x) (λ p. Last (IsFor a.shape p) (x ∷ xs)) (place_of fault) (λ p is_for. inl (none, is_for)) (names-for (data_place k) a.shape.data_block want x fault there asked bad)
+    cut-last pos there (suc i) low want fault (x ∷ xs) (asked, inl (none, bad)) =
+        if_each (λ p. IsFor a.shape p x) (λ p. Last (IsFor a.shape p) (x ∷ xs)) (place_of fault) (λ p is_for. inl (none, is_for))
+        (names-for (tree_place a.shape k i) a.shape.hash_block want x fault (tree-lies a.shape pos k i there (omega arith)) asked bad)
+    cut-last pos there (suc i) low want fault (x ∷ xs) (asked, inr (block, was, same, below)) =
+        if_each (λ p. Last (IsFor a.shape p) xs) (λ p. Last (IsFor a.shape p) (x ∷ xs)) (place_of fault) (λ p later. inr later)
+        (cut-last pos there i (omega arith) (next_digest a k i block) fault xs below)
 
     -- with fewer it was refused
     short_by : (want : List ℕ) (m : Meaning R) (answer : UpperOf R) → result m (walk a k (levels a.shape) want) ≡ answer → length (exchanges m (walk a k (levels a.shape) want)) < suc (levels a.shape)
@@ -129,11 +142,11 @@ module _ {R : Type 0} (a : Anchor) where
         let long = whole-length (levels a.shape) path.0 bytes (exchanges m (walk a k (levels a.shape) want)) path.1 in
         absurd (omega arith)
 
-    level_by : 0 < fanout a.shape → k < a.shape.blocks → (m : Meaning R) (answer : UpperOf R) → result m (walk a k (levels a.shape) a.root) ≡ answer → NamesLevel a.shape answer
-    level_by pos there m (Ok bytes) is = tt
-    level_by pos there m (Err fault) is =
+    last_by : 0 < fanout a.shape → k < a.shape.blocks → (m : Meaning R) (answer : UpperOf R) → result m (walk a k (levels a.shape) a.root) ≡ answer → NamesLast a.shape answer (exchanges m (walk a k (levels a.shape) a.root))
+    last_by pos there m (Ok bytes) is = tt
+    last_by pos there m (Err fault) is =
         let n = levels a.shape in
-        cut-lies pos there n (omega arith) a.root fault (exchanges m (walk a k n a.root)) (cut n a.root m fault is)
+        cut-last pos there n (omega arith) a.root fault (exchanges m (walk a k n a.root)) (cut n a.root m fault is)
 
     stops : k < a.shape.blocks → (m : Meaning R) → Stops a k (result m (walk a k (levels a.shape) a.root)) (exchanges m (walk a k (levels a.shape) a.root))
     stops there m =
@@ -151,5 +164,5 @@ paths_stop_lem {R = R} a m q is =
     let way = walk {R = R} a q.block (levels a.shape) a.root in
     let same : verity (Some a) q ≡ way = cond-true (is_block a.shape q) way _ is in
     let there = (block-parts a.shape q is).0 in
-    subst (λ w. Stops a q.block (result m w) (exchanges m w) × (0 < fanout a.shape → NamesLevel a.shape (result m w))) (sym same)
-    (stops a q.block there m, λ pos. level_by a q.block pos there m (result m way) refl)
+    subst (λ w. Stops a q.block (result m w) (exchanges m w) × (0 < fanout a.shape → NamesLast a.shape (result m w) (exchanges m w))) (sym same)
+    (stops a q.block there m, λ pos. last_by a q.block pos there m (result m way) refl)

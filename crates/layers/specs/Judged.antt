@@ -1,5 +1,5 @@
 -- What an answer of the path check to a question for a data block is worth, by what the device gave below in that question.
-use Rattle.std.specs.Prelude.{◌≡◌, List, Ok, Err, Some, IsSome}
+use Rattle.std.specs.Prelude.{◌≡◌, ◌⊎◌, List, [], ◌∷◌, Ok, Err, Some, IsSome}
 use Rattle.device.specs.declared.question.Question.{Question}
 use Rattle.device.specs.Answer.{Answer}
 use Rattle.device.specs.Program.{Exchange, Somewhere}
@@ -13,6 +13,11 @@ use Rattle.layers.specs.Publisher.{Publisher, NoTwin, Differs, right_block}
 -- an exchange was for the block of this place, and that lies on the place's level
 abbrev pub IsFor : {R : Type 0} → Shape → Place → Exchange R → Type 0
 IsFor s place x = (x.question.area ≡ area_of place.level) × (x.question.block ≡ place.block) × Lies s place
+
+-- the last of a list
+abbrev pub Last : {X : Type 0} → (X → Type 0) → List X → Type 0
+Last P [] = ⊥
+Last P (x ∷ xs) = ((xs ≡ []) × P x) ⊎ Last P xs
 
 -- a block of the publisher's was refused, for this reason
 abbrev pub WasRefused : {R : Type 0} → Publisher → R → Exchange R → Type 0

@@ -6,10 +6,10 @@ use Rattle.device.specs.Program.{Meaning, Exchange, Sized, result, exchanges}
 use Rattle.tree.specs.Shape.{Shape, fanout, levels}
 use Rattle.layers.specs.declared.fault.StorageFault.{StorageFault}
 use Rattle.layers.specs.Anchor.{Anchor}
-use Rattle.layers.specs.Fault.{place_of, Lies}
+use Rattle.layers.specs.Fault.{place_of}
 use Rattle.layers.specs.Verity.{is_block, verity}
 use Rattle.layers.specs.Publisher.{Publisher, Whole, anchor_of, right_block, Honest}
-use Rattle.layers.specs.Judged.{Judged}
+use Rattle.layers.specs.Judged.{IsFor, Last, Judged}
 use Rattle.layers.specs.Path.{path_questions, IsPath, IsCut}
 
 -- where the answer to a question for data block k stops, by what the device was asked and gave for it
@@ -23,24 +23,25 @@ pub record Stops {R : Type 0} (anchor : Anchor) (k : ℕ) (answer : Answer (Stor
   -- only then are fewer asked for than the path has
   pub short : length xs < suc (levels anchor.shape) → (fault : StorageFault R) × IsCut anchor k (levels anchor.shape) anchor.root fault xs
 
--- the block that a fault names lies on the level that it names
-abbrev pub NamesLevel : {R : Type 0} → Shape → Answer (StorageFault R) → Type 0
-NamesLevel s answer = IfErr answer (λ fault. IfSome (place_of fault) (Lies s))
+-- a fault names the block of the last exchange, and the level on which that lies
+abbrev pub NamesLast : {R : Type 0} → Shape → Answer (StorageFault R) → List (Exchange R) → Type 0
+NamesLast s answer xs = IfErr answer (λ fault. IfSome (place_of fault) (λ place. Last (IsFor s place) xs))
 
--- whatever the device gives, each answer to a question for a data block stops there, and a fault names its block's level
+-- whatever the device gives, each answer to a question for a data block stops there, and a fault names the block at which it did
 abbrev pub PathsStop : Type 0 → Type 0
 PathsStop R =
     (anchor : Anchor) (m : Meaning R) (q : Question) → is_block anchor.shape q ≡ true
     → Stops anchor q.block (result m (verity (Some anchor) q)) (exchanges m (verity (Some anchor) q))
-    × (0 < fanout anchor.shape → NamesLevel anchor.shape (result m (verity (Some anchor) q)))
+    × (0 < fanout anchor.shape → NamesLast anchor.shape (result m (verity (Some anchor) q)) (exchanges m (verity (Some anchor) q)))
 
 -- the same of one question, by what the label tells
 abbrev pub PathStops : {R : Type 0} → Option Anchor → Meaning R → Question → Answer (StorageFault R) → Type 0
 PathStops label m q answer =
     (anchor : Anchor) → label ≡ Some anchor → is_block anchor.shape q ≡ true → Stops anchor q.block answer (exchanges m (verity (Some anchor) q))
 
-abbrev pub LevelNamed : {R : Type 0} → Option Anchor → Question → Answer (StorageFault R) → Type 0
-LevelNamed label q answer = (anchor : Anchor) → label ≡ Some anchor → is_block anchor.shape q ≡ true → NamesLevel anchor.shape answer
+abbrev pub LastNamed : {R : Type 0} → Option Anchor → Meaning R → Question → Answer (StorageFault R) → Type 0
+LastNamed label m q answer =
+    (anchor : Anchor) → label ≡ Some anchor → is_block anchor.shape q ≡ true → NamesLast anchor.shape answer (exchanges m (verity (Some anchor) q))
 
 -- whatever the device gives, the answer is worth what `Judged` says, by every publisher with this label
 abbrev pub AnswersJudged : Type 0 → Type 0

@@ -5,7 +5,7 @@ ghost use Rattle.device.specs.Layer.{layered, Through};
 ghost use Rattle.device.specs.Run.{Ran};
 ghost use Rattle.device.proofs.Layers.{layered-sized, through-onward};
 ghost use Rattle.geometry.specs.Of.{shape_of};
-ghost use Rattle.layers.specs.Laws.{AnswerJudged, LevelNamed, PathStops};
+ghost use Rattle.layers.specs.Laws.{AnswerJudged, LastNamed, PathStops};
 ghost use Rattle.layers.specs.Verity.{verity as verity_of, verity_layer};
 ghost use Rattle.layers.proofs.Sizes.{verity_layer-fits};
 ghost use Rattle.verity.specs.Anchored.{told_by};
@@ -84,7 +84,7 @@ impl<H: Digest, D: Device> Device for Verity<H, D> {
         ensures bytes { buf.new ≡ filled (length buf.old) (layered verity_layer (label_of self.old) (D.meaning (below_of self.old)) [] (question area block buf.old)) }
         ensures moves { Through D.meaning D.moves verity_layer (label_of self.old) (below_of self.old) (question area block buf.old) (label_of self.new) (below_of self.new) }
         ensures path { PathStops (label_of self.old) (D.meaning (below_of self.old)) (question area block buf.old) (answered result buf.new) }
-        ensures level { LevelNamed (label_of self.old) (question area block buf.old) (answered result buf.new) }
+        ensures last { LastNamed (label_of self.old) (D.meaning (below_of self.old)) (question area block buf.old) (answered result buf.new) }
         ensures judged { AnswerJudged (label_of self.old) (D.meaning (below_of self.old)) (question area block buf.old) (answered result buf.new) }
     {
         self.answer(area, block, buf)

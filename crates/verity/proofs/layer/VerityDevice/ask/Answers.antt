@@ -9,7 +9,7 @@ use Rattle.layers.specs.Anchor.{Anchor}
 use Rattle.layers.specs.Publisher.{anchor_of}
 use Rattle.layers.specs.Judged.{Judged}
 use Rattle.layers.specs.Verity.{verity, verity_layer}
-use Rattle.layers.specs.Laws.{Stops, NamesLevel}
+use Rattle.layers.specs.Laws.{Stops, NamesLast}
 use Rattle.layers.proofs.Stopping.{paths_stop_lem}
 use Rattle.layers.proofs.Judging.{answers_judged_lem}
 use Rattle.layers.proofs.Walking.{verity-ran}
@@ -57,13 +57,13 @@ returns-clause-path g c anchor told block =
     let is = of_label m (label_of v) anchor told q _ (ran-end g.D.Device.meaning g.D.Device.moves g.met.D.Device.onward (verity (label_of v) q) v.below _ c.answer.new.self.below c.answer.ensures.run).0 in
     subst (λ x. Stops anchor q.block x (exchanges m (verity (Some anchor) q))) (sym is) (paths_stop_lem anchor m q block).0
 
-pub returns-clause-level : goal.returns-clause-level
-returns-clause-level g c anchor told block =
+pub returns-clause-last : goal.returns-clause-last
+returns-clause-last g c anchor told block =
     let v = c.args.self.now in
     let q = question c.args.area c.args.block c.args.buf.now in
     let m = g.D.Device.meaning v.below in
     let is = of_label m (label_of v) anchor told q _ (ran-end g.D.Device.meaning g.D.Device.moves g.met.D.Device.onward (verity (label_of v) q) v.below _ c.answer.new.self.below c.answer.ensures.run).0 in
-    subst (λ x. NamesLevel anchor.shape x) (sym is) ((paths_stop_lem anchor m q block).1 (kept-wide v.anchor anchor told))
+    subst (λ x. NamesLast anchor.shape x (exchanges m (verity (Some anchor) q))) (sym is) ((paths_stop_lem anchor m q block).1 (kept-wide v.anchor anchor told))
 
 pub returns-clause-judged : goal.returns-clause-judged
 returns-clause-judged g c p whole told block =
