@@ -267,13 +267,16 @@ class Script:
         name, _, rest = line.partition(" ")
         try:
             words = []
-            for form in forms[name]:
+            for at, form in enumerate(forms[name]):
                 if form == "p":
+                    if rest.startswith("=") and not re.fullmatch("=([0-9A-Fa-f]{2})*", rest):
+                        raise ValueError
                     words.append(bytes.fromhex(rest[1:]) if rest.startswith("=") else rest.encode())
                     rest = ""
                 else:
-                    word, _, rest = rest.partition(" ")
-                    if not word.isdecimal() or int(word) >= 2 ** 64:
+                    last = at + 1 == len(forms[name])
+                    word, _, rest = (rest, "", "") if last else rest.partition(" ")
+                    if not re.fullmatch("[0-9]+", word) or int(word) >= 2 ** 64:
                         raise ValueError
                     words.append(int(word))
             if rest:

@@ -7,7 +7,7 @@ use label_text::LabelText;
 use media::{Tape, Turning};
 use mount::Mount;
 use open_files::OpenFiles;
-use script::{Bottom, Counting};
+use script::{BottomRefusal, Counting};
 use session::Session;
 use std::fs;
 use text::Function;
@@ -36,7 +36,7 @@ fn answer_all<H: Digest + Drop, D: Device + Drop>(
     bottom: D,
 ) -> Result<(), Fault>
 where
-    D::Refusal: Copy + Into<Bottom>,
+    D::Refusal: BottomRefusal,
 {
     let mount = Mount::new(digest, &label.label(), Counting::new(bottom));
     let mut session = Session {
@@ -52,7 +52,7 @@ where
 
 fn run_over<D: Device + Drop>(rt: &HostRuntime, label: &LabelText, bottom: D) -> Result<(), Fault>
 where
-    D::Refusal: Copy + Into<Bottom>,
+    D::Refusal: BottomRefusal,
 {
     // a closure cannot be generic over the digest
     match label.function() {

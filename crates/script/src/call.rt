@@ -1,40 +1,22 @@
 // The lines of a script.
-use std::fmt;
+ghost use Rattle.std.specs.Prelude.{◌≡◌};
+ghost use Rattle.std.specs.Option.{option_map};
+ghost use Rattle.script.specs.Call.{asked, path_told};
+ghost use Rattle.script.specs.Line.{call_of, line_number, list_of, path_of, read_of, rest_of, whole_of, word_of};
 
-// The name of a call, as a line begins.
-#[derive(Clone, Copy, PartialEq, Eq, Debug)]
-pub enum Name {
-    Begin,
-    Open,
-    Read,
-    Whole,
-    List,
-    Close,
-}
+use crate::name::Name;
+use text::{HexText, wide_number};
 
-impl fmt::Display for Name {
-    fn fmt<W: fmt::Write>(&self, f: &mut fmt::Formatter<W>) -> fmt::Result {
-        match self {
-            Name::Begin => write!(f, "begin"),
-            Name::Open => write!(f, "open"),
-            Name::Read => write!(f, "read"),
-            Name::Whole => write!(f, "whole"),
-            Name::List => write!(f, "list"),
-            Name::Close => write!(f, "close"),
-        }
-    }
-}
-
-// A path as a script spells it.
+/// A path as a script spells it.
 #[derive(Clone, Copy, PartialEq, Eq, Debug)]
 pub enum PathWord<'a> {
-    // The bytes of the text.
-    Plain(&'a str),
-    // Pairs of hexadecimal digits.
-    Hex(&'a str),
+    /// The bytes of the text.
+    Plain(&'a [u8]),
+    /// Pairs of hexadecimal digits.
+    Hex(HexText<'a>),
 }
 
-// Handles are told by the number of their accepted open, counted from 0.
+/// Handles are told by the number of their accepted open, counted from 0.
 #[derive(Clone, Copy, PartialEq, Eq, Debug)]
 pub enum Call<'a> {
     Begin,
@@ -61,91 +43,85 @@ pub enum Call<'a> {
 }
 
 // The text up to the first space, and what follows it.
-fn first_word(text: &str) -> (&str, &str) {
+fn first_word(text: &str) -> (&str, &str)
+    ensures word { result.0.now ≡ word_of text.now }
+    ensures rest { result.1.now ≡ rest_of text.now }
+{
     text.split_once(' ').unwrap_or((text, ""))
-}
-
-// A number, and what follows it.
-fn number(text: &str) -> Option<(usize, &str)> {
-    let (word, rest) = first_word(text);
-    Some((word.parse::<usize>().ok()?, rest))
-}
-
-// A number with nothing behind it.
-fn last_number(text: &str) -> Option<usize> {
-    text.parse::<usize>().ok()
 }
 
 impl<'a> PathWord<'a> {
     // A text that begins with `=` is hexadecimal, and no path if it is not pairs of digits.
-    fn parse(text: &'a str) -> Option<PathWord<'a>> {
-        match text.strip_prefix('=') {
-            None => Some(PathWord::Plain(text)),
-            Some(digits) if is_hex(digits) => Some(PathWord::Hex(digits)),
-            Some(_) => None,
+    fn parse(text: &'a [u8]) -> Option<PathWord<'a>>
+        ensures { option_map path_told result ≡ path_of text.now }
+    {
+        match text {
+            [b'=', digits @ ..] => HexText::new(digits).map(PathWord::Hex),
+            _ => Some(PathWord::Plain(text)),
         }
     }
-}
-
-fn is_hex(text: &str) -> bool {
-    text.len() % 2 == 0 && text.bytes().all(|c| c.is_ascii_hexdigit())
 }
 
 impl<'a> Call<'a> {
-    // The call that a line asks for, if it is one.
-    pub fn parse(line: &'a str) -> Option<Call<'a>> {
+    /// The call that a line asks for, if it asks for one.
+    #[tactic(auto, unfolding(crate::specs::Line::call_of))]
+    pub fn parse(line: &'a str) -> Option<Call<'a>>
+        ensures { option_map asked result ≡ call_of line.now }
+    {
         let (name, rest) = first_word(line);
-        match name {
-            "begin" => rest.is_empty().then_some(Call::Begin),
-            "open" => Some(Call::Open {
-                path: PathWord::parse(rest)?,
+        match Name::of(name.as_bytes())? {
+            Name::Begin => rest.is_empty().then_some(Call::Begin),
+            Name::Open => Some(Call::Open {
+                path: PathWord::parse(rest.as_bytes())?,
             }),
-            "read" => parse_read(rest),
-            "whole" => parse_whole(rest),
-            "list" => parse_list(rest),
-            "close" => Some(Call::Close {
-                handle: last_number(rest)?,
+            Name::Read => parse_read(rest),
+            Name::Whole => parse_whole(rest),
+            Name::List => parse_list(rest),
+            Name::Close => Some(Call::Close {
+                handle: wide_number(rest.as_bytes())?,
             }),
-            _ => None,
-        }
-    }
-
-    pub fn name(&self) -> Name {
-        match self {
-            Call::Begin => Name::Begin,
-            Call::Open { .. } => Name::Open,
-            Call::Read { .. } => Name::Read,
-            Call::Whole { .. } => Name::Whole,
-            Call::List { .. } => Name::List,
-            Call::Close { .. } => Name::Close,
         }
     }
 }
 
-fn parse_read(text: &str) -> Option<Call<'_>> {
+// A number, and what follows it.
+fn number(text: &str) -> Option<(usize, &str)>
+    ensures { option_map (λ found. (found.0, found.1.now)) result ≡ line_number text.now }
+{
+    let (word, rest) = first_word(text);
+    Some((wide_number(word.as_bytes())?, rest))
+}
+
+fn parse_read(text: &str) -> Option<Call<'_>>
+    ensures { option_map asked result ≡ read_of text.now }
+{
     let (handle, rest) = number(text)?;
     let (from, rest) = number(rest)?;
     Some(Call::Read {
         handle,
         from,
-        length: last_number(rest)?,
+        length: wide_number(rest.as_bytes())?,
     })
 }
 
-fn parse_whole(text: &str) -> Option<Call<'_>> {
+fn parse_whole(text: &str) -> Option<Call<'_>>
+    ensures { option_map asked result ≡ whole_of text.now }
+{
     let (handle, rest) = number(text)?;
     Some(Call::Whole {
         handle,
-        length: last_number(rest)?,
+        length: wide_number(rest.as_bytes())?,
     })
 }
 
-fn parse_list(text: &str) -> Option<Call<'_>> {
+fn parse_list(text: &str) -> Option<Call<'_>>
+    ensures { option_map asked result ≡ list_of text.now }
+{
     let (index, rest) = number(text)?;
     let (length, rest) = number(rest)?;
     Some(Call::List {
         index,
         length,
-        path: PathWord::parse(rest)?,
+        path: PathWord::parse(rest.as_bytes())?,
     })
 }

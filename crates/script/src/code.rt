@@ -1,61 +1,20 @@
 // A refusal in short: its number with its places, one within the other.
-ghost use Rattle.std.specs.Prelude.{◌≡◌};
+ghost use Rattle.std.specs.Prelude.{Some};
+ghost use Rattle.script.specs.Code.{block_code, code_text, storage_code, volume_code};
 
+use crate::bottom::BottomRefusal;
 use calls::Refusal;
-use device::Area;
 use layers::{Level, Place, StorageFault};
-use media::{Outside, Spent};
 use std::fmt;
 use volume::{PathFault, VolumeFault};
-
-// What a bottom device refused, and by which number.
-#[derive(Clone, Copy, PartialEq, Eq, Debug)]
-pub struct Bottom {
-    pub number: u8,
-    pub area: Area,
-    pub block: u32,
-}
-
-impl From<Outside> for Bottom {
-    ghost from_gives = { λ outside bottom. bottom ≡ record { number = 8; area = outside.area; block = outside.block } };
-
-    fn from(outside: Outside) -> Bottom {
-        Bottom {
-            number: outside.number(),
-            area: outside.area,
-            block: outside.block,
-        }
-    }
-}
-
-impl From<Spent> for Bottom {
-    ghost from_gives = { λ spent bottom. bottom ≡ record { number = 9; area = spent.area; block = spent.block } };
-
-    fn from(spent: Spent) -> Bottom {
-        Bottom {
-            number: spent.number(),
-            area: spent.area,
-            block: spent.block,
-        }
-    }
-}
-
-impl fmt::Display for Bottom {
-    fn fmt<W: fmt::Write>(&self, f: &mut fmt::Formatter<W>) -> fmt::Result {
-        let Bottom {
-            number,
-            area,
-            block,
-        } = self;
-        write!(f, "{number}[{area} {block}]")
-    }
-}
 
 // The place of a block of a path.
 #[derive(Clone, Copy)]
 struct BlockCode(Place);
 
 impl fmt::Display for BlockCode {
+    ghost output = { λ code. Some (block_code code.0) };
+
     fn fmt<W: fmt::Write>(&self, f: &mut fmt::Formatter<W>) -> fmt::Result {
         let block = self.0.block;
         match self.0.level {
@@ -68,19 +27,20 @@ impl fmt::Display for BlockCode {
 #[derive(Drop)]
 struct StorageCode<'a, R>(&'a StorageFault<R>);
 
-impl<R: Copy + Into<Bottom>> fmt::Display for StorageCode<'_, R> {
+impl<R: BottomRefusal> fmt::Display for StorageCode<'_, R> {
+    ghost output = { λ code. Some (storage_code R.bottom code.0.now) };
+
     fn fmt<W: fmt::Write>(&self, f: &mut fmt::Formatter<W>) -> fmt::Result {
         let number = self.0.number();
-        write!(f, "{number}")?;
-        if let Some(place) = self.0.place() {
-            write!(f, "{}", BlockCode(place))?;
-        }
         match self.0 {
-            StorageFault::Refused(_, below) => {
-                let bottom: Bottom = (*below).into();
-                write!(f, "({bottom})")
+            StorageFault::Label => write!(f, "{number}"),
+            StorageFault::NoBlock(block) => {
+                write!(f, "{number}{}", BlockCode(Place::data(*block)))
             }
-            _ => Ok(()),
+            StorageFault::Refused(place, below) => {
+                write!(f, "{number}{}({})", BlockCode(*place), below.bottom())
+            }
+            StorageFault::Mismatch(place) => write!(f, "{number}{}", BlockCode(*place)),
         }
     }
 }
@@ -88,7 +48,9 @@ impl<R: Copy + Into<Bottom>> fmt::Display for StorageCode<'_, R> {
 #[derive(Drop)]
 struct VolumeCode<'a, R>(&'a VolumeFault<StorageFault<R>>);
 
-impl<R: Copy + Into<Bottom>> fmt::Display for VolumeCode<'_, R> {
+impl<R: BottomRefusal> fmt::Display for VolumeCode<'_, R> {
+    ghost output = { λ code. Some (volume_code R.bottom code.0.now) };
+
     fn fmt<W: fmt::Write>(&self, f: &mut fmt::Formatter<W>) -> fmt::Result {
         match self.0 {
             VolumeFault::Rule(at, rule) => write!(f, "volume@{at}:{}", rule.number()),
@@ -97,10 +59,13 @@ impl<R: Copy + Into<Bottom>> fmt::Display for VolumeCode<'_, R> {
     }
 }
 
+/// A refusal that prints in short, as `path@3(volume@96(11[level data block 7]))`.
 #[derive(Drop)]
 pub struct Code<'a, R>(pub &'a Refusal<StorageFault<R>>);
 
-impl<R: Copy + Into<Bottom>> fmt::Display for Code<'_, R> {
+impl<R: BottomRefusal> fmt::Display for Code<'_, R> {
+    ghost output = { λ code. Some (code_text R.bottom code.0.now) };
+
     fn fmt<W: fmt::Write>(&self, f: &mut fmt::Formatter<W>) -> fmt::Result {
         match self.0 {
             Refusal::Mount(rule) => write!(f, "{}", rule.number()),

@@ -1,14 +1,20 @@
 // A script of calls, a line each, and the lines that answer it.
 #![tactic(auto)]
 
+mod bottom;
 mod call;
 mod code;
 mod counting;
+mod letters;
+mod name;
 mod reply;
 #[cfg(test)]
 mod tests;
 
-pub use call::{Call, Name, PathWord};
-pub use code::{Bottom, Code};
+pub use bottom::{Bottom, BottomRefusal};
+pub use call::{Call, PathWord};
+pub use code::Code;
 pub use counting::Counting;
-pub use reply::{Reply, executable_letter, letter};
+pub use letters::{executable_letter, letter};
+pub use name::Name;
+pub use reply::Reply;

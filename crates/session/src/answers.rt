@@ -3,7 +3,7 @@ use device::Device;
 use digest::Digest;
 use hex::FromHexError;
 use open_files::{FileFault, NotOpen, OpenFault, OpenFiles};
-use script::{Bottom, Call, Name, PathWord, Reply};
+use script::{BottomRefusal, Call, Name, PathWord, Reply};
 use std::alloc::{AllocError, Global};
 use std::io::{BufRead, BufReader};
 use std::{io, str};
@@ -28,9 +28,9 @@ fn buffer(heap: Global, length: usize) -> Option<Vec<u8>> {
 // The bytes of a path.
 fn path_bytes(heap: Global, path: PathWord<'_>) -> Result<Vec<u8>, AllocError> {
     match path {
-        PathWord::Plain(text) => text.as_bytes().to_vec(heap),
+        PathWord::Plain(bytes) => bytes.to_vec(heap),
         // the digits are pairs
-        PathWord::Hex(digits) => match hex::decode(heap, digits.as_bytes()) {
+        PathWord::Hex(digits) => match hex::decode(heap, digits.text()) {
             Err(FromHexError::OutOfMemory) => Err(AllocError),
             found => Ok(found.unwrap_or(Vec::new(heap))),
         },
@@ -39,7 +39,7 @@ fn path_bytes(heap: Global, path: PathWord<'_>) -> Result<Vec<u8>, AllocError> {
 
 impl<H: Digest, D: Device> Session<'_, H, D>
 where
-    D::Refusal: Copy + Into<Bottom>,
+    D::Refusal: BottomRefusal,
 {
     fn say(&self, reply: &Reply<'_, D::Refusal>) -> io::Result<()> {
         reply.print(self.rt)

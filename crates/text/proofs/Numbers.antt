@@ -1,4 +1,4 @@
--- A number as std parses it, and as `number_of` reads it.
+-- A number as std parses it, and as `number_within` reads it.
 use Rattle.std.proofs.Common.{◌≡◌, ℕ, ◌^◌, ◌<◌, true, List, length, Result, Ok, Err, Some, None, sym, ap, ◌∙◌, arith, rules}
 use Rattle.std.specs.Char.{is_ascii_digit}
 use Rattle.std.specs.List.{list_all}
@@ -10,24 +10,24 @@ use Rattle.std.proofs.lemmas.Fmt.{IsAscii-from_digits, decimal_nonempty, digits_
 use Rattle.std.specs.Fmt.{decimal}
 use Rattle.std.proofs.lemmas.Str.{IsUtf8-from_ascii}
 use Rattle.std.proofs.lemmas.Str.Parse.{IsNumeralModel, numerals_by_value, parse_digits}
-use Rattle.text.specs.Number.{number_of}
+use Rattle.text.specs.Number.{number_of, number_within}
 
 pub own : IsNumeralModel (λ ds. list_all is_ascii_digit ds ≡ true) (digits_value 10)
 own = numerals_by_value _ (search rules)
 
-told : {E : Type 0} (text : List ℕ) (r : Result ℕ E) → list_all is_ascii_digit text ≡ true → OkIff r ((0 < length text) × (digits_value 10 text < 2 ^ 32)) (digits_value 10 text) → result_ok r ≡ number_of text
-told text (Ok x) digits h =
+told : {E : Type 0} (bits : ℕ) (text : List ℕ) (r : Result ℕ E) → list_all is_ascii_digit text ≡ true → OkIff r ((0 < length text) × (digits_value 10 text < 2 ^ bits)) (digits_value 10 text) → result_ok r ≡ number_within bits text
+told bits text (Ok x) digits h =
     ap Some h.1 ∙ sym (cond-true _ (Some (digits_value 10 text)) None (and_from _ _ (and_from _ _ digits (lt-ltb _ _ h.0.0)) (lt-ltb _ _ h.0.1)))
-told text (Err e) digits h =
+told bits text (Err e) digits h =
     sym (cond-false _ (Some (digits_value 10 text)) None (false_from_ne_true _ (λ all.
     let parts = and_parts _ _ all in
     h (ltb-true _ _ (and_parts _ _ parts.0).1, ltb-true _ _ parts.1))))
 
-pub parsed : {E : Type 0} (text : List ℕ) (r : Result ℕ E) → list_all is_ascii_digit text ≡ true → ParsesUnsigned 32 10 text r → result_ok r ≡ number_of text
-parsed text r digits h = told text r digits (parse_digits own 32 text r h digits)
+pub parsed : {E : Type 0} (bits : ℕ) (text : List ℕ) (r : Result ℕ E) → list_all is_ascii_digit text ≡ true → ParsesUnsigned bits 10 text r → result_ok r ≡ number_within bits text
+parsed bits text r digits h = told bits text r digits (parse_digits own bits text r h digits)
 
-pub undecoded : (text : List ℕ) → ¬ (IsUtf8 text) → None ≡ number_of text
-undecoded text h =
+pub undecoded : (bits : ℕ) (text : List ℕ) → ¬ (IsUtf8 text) → None ≡ number_within bits text
+undecoded bits text h =
     sym (cond-false _ (Some (digits_value 10 text)) None (false_from_ne_true _ (λ all.
     h (IsUtf8-from_ascii text (IsAscii-from_digits text (own.to text (and_parts _ _ (and_parts _ _ all).0).0))))))
 

@@ -1,5 +1,5 @@
 -- Pairs of digits, read one at a time; and that reading undoes writing.
-use Rattle.std.proofs.Common.{◌≡◌, ℕ, suc, ◌+◌, ◌-◌, ◌*◌, ◌/◌, ◌%◌, ◌<◌, ◌≤◌, ◌≢◌, List, [], ◌∷◌, ◌++◌, length, take, drop, get_or, Option, Some, None, refl, sym, ap, ◌∙◌, arith, append_assoc}
+use Rattle.std.proofs.Common.{◌≡◌, ℕ, suc, ◌+◌, ◌-◌, ◌*◌, ◌/◌, ◌%◌, ◌<◌, ◌≤◌, ◌≢◌, List, [], ◌∷◌, ◌++◌, length, take, drop, get_or, Option, Some, None, is_some, true, false, refl, sym, ap, ◌∙◌, arith, append_assoc}
 use Rattle.std.specs.Option.{option_map}
 use Rattle.std.proofs.lemmas.List.{append-nil, length-drop, take_rest}
 use Rattle.std.proofs.lemmas.Bool.Decides.{nat_tests}
@@ -49,6 +49,34 @@ unfolding unhex_of
 ended front [] t short even found = ap Some (sym (append-nil front)) ∙ found
 ended front (c ∷ []) t short even found = absurd (omega arith)
 ended front (c ∷ d ∷ rest) t short even found = absurd (omega arith)
+
+-- whether a text is pairs of digits: a pair that is none, one pair less, and the end
+none_of : (t : Option (List ℕ)) → is_some t ≡ false → None ≡ t
+none_of None h = refl
+none_of (Some m) h = cc
+
+before-is_some : (b : ℕ) (more : Option (List ℕ)) → is_some (before (Some b) more) ≡ is_some more
+before-is_some b (Some m) = refl
+before-is_some b None = refl
+
+pub paired_not : (s : List ℕ) (t : Option (List ℕ)) → 2 ≤ length s → byte_of (get_or s 0 0) (get_or s 1 0) ≡ None → is_some (unhex_of s) ≡ is_some t → None ≡ t
+paired_not s t long bad h = none_of t (sym h ∙ ap is_some (unhex_of-pair s long ∙ ap (λ b. before b (unhex_of (drop 2 s))) bad))
+
+pub paired_less : (s : List ℕ) (byte : ℕ) → 2 ≤ length s → byte_of (get_or s 0 0) (get_or s 1 0) ≡ Some byte → is_some (unhex_of (take (length s - 2) (drop 2 s))) ≡ is_some (unhex_of s)
+paired_less s byte long good =
+    let whole : take (length s - 2) (drop 2 s) ≡ drop 2 s = take_rest s 2 in
+    rw whole (sym (before-is_some byte (unhex_of (drop 2 s))) ∙ ap (λ b. is_some (before b (unhex_of (drop 2 s)))) (sym good) ∙ ap is_some (sym (unhex_of-pair s long)))
+
+pub paired_end : (s : List ℕ) (t : Option (List ℕ)) → length s ≡ 0 → is_some (unhex_of s) ≡ is_some t → is_some t ≡ true
+unfolding unhex_of
+paired_end [] t none h = sym h
+paired_end (c ∷ rest) t none h = absurd (omega arith)
+
+pub paired_odd : (s : List ℕ) (t : Option (List ℕ)) → length s < 2 → 0 < length s → is_some (unhex_of s) ≡ is_some t → None ≡ t
+unfolding unhex_of
+paired_odd [] t short some h = absurd (omega arith)
+paired_odd (c ∷ []) t short some h = none_of t (sym h)
+paired_odd (c ∷ d ∷ rest) t short some h = absurd (omega arith)
 
 -- a digit that was written reads as itself
 digit_value-digit_of : (n : ℕ) → n < 16 → digit_value (digit_of n) ≡ Some n

@@ -2,7 +2,7 @@
 ghost use Rattle.std.specs.Prelude.{◌≡◌};
 ghost use Rattle.std.specs.Char.{is_ascii_digit};
 ghost use Rattle.std.specs.List.{list_all};
-ghost use Rattle.text.specs.Number.{number_of};
+ghost use Rattle.text.specs.Number.{number_of, wide_number_of};
 
 use std::str;
 
@@ -19,6 +19,16 @@ pub fn number(text: &[u8]) -> Option<u32>
 {
     match str::from_utf8(text) {
         Ok(digits) if all_digits(text) => digits.parse::<u32>().ok(),
+        _ => None,
+    }
+}
+
+/// The same of a number of at most 64 bits.
+pub fn wide_number(text: &[u8]) -> Option<usize>
+    ensures { result ≡ wide_number_of text.now }
+{
+    match str::from_utf8(text) {
+        Ok(digits) if all_digits(text) => digits.parse::<usize>().ok(),
         _ => None,
     }
 }

@@ -5,6 +5,7 @@ mod bytes;
 mod decimal;
 mod digits;
 mod function;
+mod hex_text;
 mod laws;
 mod sum;
 mod take;
@@ -12,7 +13,8 @@ mod take;
 mod tests;
 
 pub use bytes::Bytes;
-pub use decimal::number;
+pub use decimal::{number, wide_number};
 pub use digits::Digits;
 pub use function::{Function, UnknownFunction};
+pub use hex_text::HexText;
 pub use laws::{digits_stand, numbers_stand};
