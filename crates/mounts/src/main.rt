@@ -8,7 +8,7 @@ mod levels;
 mod using;
 mod volume_bytes;
 
-use anyhow::ensure;
+use anyhow::{anyhow, ensure};
 use card::Card;
 use cases::Case;
 use digest::Sha256;
@@ -20,7 +20,8 @@ use volume_bytes::{SUM, volume_with};
 fn print_first(rt: &HostRuntime) -> anyhow::Result<()> {
     let card = Card::of(volume_with(SUM))?;
     let mut name = [0; 128];
-    let _memory = list_first(Sha256, &card.label(), card.memory(), &mut name);
+    let (_memory, answer) = list_first(Sha256, &card.label(), card.memory(), &mut name);
+    let _entry = answer.map_err(|refusal| anyhow!("{refusal}"))?;
     println!(rt;
         "first entry: {}",
         str::from_utf8(&name)?.trim_end_matches('\0')

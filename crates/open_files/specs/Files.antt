@@ -1,5 +1,5 @@
 -- What is open: the list of open files, how many opens were accepted, and the mount inside.
-use Rattle.std.specs.Prelude.{◌≡◌, ℕ, List, Option, None, Some, ◌==◌, position, remove, slice_get}
+use Rattle.std.specs.Prelude.{◌≤◌, length, vec_capacity, ◌≡◌, ℕ, List, Option, None, Some, ◌==◌, position, remove, slice_get}
 use Rattle.mount.specs.declared.mount.Mount.{Mount}
 use Rattle.reader.specs.Calls.{extent_of}
 use Rattle.volume.specs.Use.{Extent}
@@ -13,6 +13,10 @@ files_of o = o.files.items
 -- how many opens were accepted
 abbrev pub opened_of : {H D : Type 0} {r h d : _} → OpenFiles H D r h d → ℕ
 opened_of o = o.opened
+
+-- there is no room to keep one more file
+abbrev pub IsFull : {H D : Type 0} {r h d : _} → OpenFiles H D r h d → Type 0
+IsFull o = vec_capacity o.files ≤ length (files_of o)
 
 -- the mount inside
 abbrev pub mount_of : {H D : Type 0} {r h d : _} → OpenFiles H D r h d → Mount H D r h d

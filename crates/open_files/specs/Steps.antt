@@ -15,7 +15,7 @@ use Rattle.open_files.specs.declared.faults.OpenFault.{OpenFault}
 use Rattle.open_files.specs.declared.faults.OpenFault.TheVariants as open_fault
 use Rattle.open_files.specs.declared.faults.FileFault.{FileFault}
 use Rattle.open_files.specs.declared.faults.FileFault.TheVariants as file_fault
-use Rattle.open_files.specs.Files.{files_of, opened_of, mount_of, data_of, file_of, Keeps, Stays}
+use Rattle.open_files.specs.Files.{files_of, opened_of, mount_of, data_of, file_of, IsFull, Keeps, Stays}
 
 -- an accepted reply with no buffer, and a refused one
 abbrev pub accepted : {F : Type 0} → Given → Reply F
@@ -38,7 +38,7 @@ abbrev pub file_from : Opened → OpenFile
 file_from o = record { number = o.number; handle = record { start = o.start; size = o.size } }
 
 -- an open. Accepted, it has the number of accepted opens before it (2^64 - 1 at most), and is kept behind the others.
--- Refused, nothing else changes; without memory to keep it the mount is not called.
+-- Refused, nothing else changes. Without room or memory to keep one more the mount is not called.
 abbrev pub Opens : {H D R : Type 0} {r h d : _} → (D → Meaning R) → (D → Question → D → Type 0) → OpenFiles H D r h d → List ℕ → Result Opened (OpenFault R) → OpenFiles H D r h d → Type 0
 Opens meaning moves o path (Ok got) n =
     Stepped meaning moves o (open_file path) (accepted (opened (data_of (file_from got)))) n
@@ -46,7 +46,7 @@ Opens meaning moves o path (Ok got) n =
     × (files_of n ≡ files_of o ++ file_from got ∷ [])
     × (opened_of n ≡ min (opened_of o + 1) (2 ^ 64 - 1))
 Opens meaning moves o path (Err (open_fault.Refused why)) n = Stepped meaning moves o (open_file path) (record { answer = Err why; buffer = [] }) n × Keeps o n
-Opens meaning moves o path (Err open_fault.Memory) n = Stays o n
+Opens meaning moves o path (Err open_fault.Memory) n = IsFull o × Stays o n
 
 -- a call for the file of a number: the mount's whole reply, or that there is no such file
 abbrev pub AsksFor : {H D R X : Type 0} {r h d : _} → (D → Meaning R) → (D → Question → D → Type 0) → OpenFiles H D r h d → ℕ → (Extent → Call) → (X → Given) → List ℕ → Result X (FileFault R) → OpenFiles H D r h d → Type 0

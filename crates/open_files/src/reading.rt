@@ -1,5 +1,5 @@
 // A whole file, and the entries of a directory.
-ghost use Rattle.std.specs.Prelude.{◌≡◌, ◌<◌, ◌≤◌, ◌-◌, ◌==◌, Ok, IfErr, IfNone, IfOk, IfSome, length, position};
+ghost use Rattle.std.specs.Prelude.{◌≡◌, ◌≢◌, ◌↔◌, ◌<◌, ◌≤◌, ◌-◌, ◌==◌, Ok, IfErr, IfNone, IfOk, IfSome, IsTrue, length, position};
 ghost use Rattle.std.specs.List.{before_first, position_or_len};
 ghost use Rattle.reader.specs.Calls.{extent_of};
 ghost use Rattle.calls.specs.Calls.{list, listed};
@@ -105,6 +105,19 @@ impl Listed {
     }
 }
 
+// Whether a refusal says that an index is behind the last entry: 41, at the end of a path of this length.
+fn is_behind_last<F>(refusal: &Refusal<F>, length: usize) -> bool
+    ensures { IsTrue result ↔ (refusal.now ≡ missing length) }
+{
+    match refusal {
+        Refusal::Path(PathFault::Rule(at, PathRule::Missing)) => *at == length,
+        Refusal::Path(PathFault::Rule(_, _)) => false,
+        Refusal::Path(PathFault::Volume(_, _)) => false,
+        Refusal::Mount(_) => false,
+        Refusal::Volume(_) => false,
+    }
+}
+
 /// The entry with this number in the directory at a path, counted from 0 as the mount's `list` does, or none behind the last.
 pub fn entry_at<H: Digest, D: Device>(
     mount: &mut Mount<H, D>,
@@ -115,11 +128,12 @@ pub fn entry_at<H: Digest, D: Device>(
     ensures listed { IfOk result (λ found. IfSome found (λ l. Called D.meaning D.moves (mounted_of mount.old) (device_of mount.old) (list path.now index 128) (record { answer = Ok (listed l.entry); buffer = name_of l }) (mounted_of mount.new) (device_of mount.new))) }
     ensures last { IfOk result (λ found. IfNone found (Refuses D.meaning D.moves (mounted_of mount.old) (device_of mount.old) (list path.now index 128) (missing (length path.now)) (mounted_of mount.new) (device_of mount.new))) }
     ensures refused { IfErr result (λ why. Refuses D.meaning D.moves (mounted_of mount.old) (device_of mount.old) (list path.now index 128) why (mounted_of mount.new) (device_of mount.new)) }
+    ensures not_last { IfErr result (λ why. why ≢ missing (length path.now)) }
 {
     let mut name = [0; 128];
     match mount.list(path, index, &mut name) {
         Ok(entry) => Ok(Some(Listed { entry, name })),
-        Err(Refusal::Path(PathFault::Rule(at, PathRule::Missing))) if at == path.len() => Ok(None),
-        Err(fault) => Err(fault),
+        Err(refusal) if is_behind_last(&refusal, path.len()) => Ok(None),
+        Err(refusal) => Err(refusal),
     }
 }

@@ -1,26 +1,23 @@
-use Rattle.std.proofs.Common.{List, [], ◌∷◌, length, refl, sym, subst}
-use Rattle.device.specs.Program.{exchanges}
-use Rattle.calls.specs.Calls.{begin, list, started, listed}
-use Rattle.calls.specs.Law.{Event, Kept, Used}
-use Rattle.calls.specs.Mount as rules
-use Rattle.mount.specs.Mount.{device_of, mounted_of, replied}
+use Rattle.std.proofs.Common.{subst, sym}
+use Rattle.calls.specs.Law.{Kept, Used}
+use Rattle.mount.specs.Mount.{device_of, mounted_of}
 use Rattle.mounts.proofs.using.list_first.Goals as goal
 
-pub returns : goal.returns
-returns g c p label whole limits =
+pub returns-clause-calls : goal.returns-clause-calls
+returns-clause-calls g c =
     let meaning = g.D.Device.meaning in
     let moves = g.D.Device.moves in
     let m = mounted_of c.new-mount.result in
     let d = device_of c.new-mount.result in
-    let k = mounted_of c.begin.new.self in
-    let f = device_of c.begin.new.self in
-    let n = mounted_of c.list.new.self in
-    let e = device_of c.list.new.self in
-    let listing = list [] 0 (length c.args.buf.now) in
-    let xs : List (Event _) =
-    (record { call = begin; reply = replied started [] c.begin.result; exchanges = exchanges (meaning d) (rules.mount m begin) }
-    ∷ record { call = listing; reply = replied listed c.list.new.buf c.list.result; exchanges = exchanges (meaning f) (rules.mount k listing) }
-    ∷ []) in
-    let used : Used meaning moves m d xs n e = (k, f, c.begin.ensures.step, (n, e, c.list.ensures.step, (refl, refl))) in
-    let kept = (c.new-mount.ensures.law p label whole limits xs n e used).0 in
-    (xs, subst (λ x. Kept meaning moves p c.args.device xs x) (sym c.into_device.ensures) (subst (λ x. Kept meaning moves p x xs e) c.new-mount.ensures.device kept), refl, refl)
+    let n = mounted_of c.first_entry-answer.new.mount in
+    let e = device_of c.first_entry-answer.new.mount in
+    let xs = c.first_entry-answer.ensures.calls.0 in
+    let used : Used meaning moves m d xs n e = c.first_entry-answer.ensures.calls.1 in
+    let given : Used meaning moves m d xs n c.into_device.result = subst (λ x. Used meaning moves m d xs n x) (sym c.into_device.ensures) used in
+    let on_device : Used meaning moves m c.args.device xs n c.into_device.result = subst (λ x. Used meaning moves m x xs n c.into_device.result) c.new-mount.ensures.device given in (
+      xs,
+      n,
+      subst (λ v. Used meaning moves v c.args.device xs n c.into_device.result) c.new-mount.ensures.made on_device,
+      c.first_entry-answer.ensures.calls.2,
+      λ p label whole limits. subst (λ x. Kept meaning moves p x xs c.into_device.result) c.new-mount.ensures.device (c.new-mount.ensures.law p label whole limits xs n c.into_device.result given).0,
+    )

@@ -1,0 +1,23 @@
+-- A use of a mount of one or two calls: begin and, if that is accepted, list.
+use Rattle.std.specs.Prelude.{◌≡◌, ◌⊎◌, ℕ, List, [], ◌∷◌, Result, Ok, Err, map}
+use Rattle.layers.specs.declared.fault.StorageFault.{StorageFault}
+use Rattle.volume.specs.declared.types.Start.{Start}
+use Rattle.volume.specs.declared.types.Entry.{Entry}
+use Rattle.calls.specs.declared.refusal.Refusal.{Refusal}
+use Rattle.calls.specs.Calls.{Call, Reply, begin, list, listed, started}
+use Rattle.calls.specs.Law.{Event}
+
+-- a call and its reply
+abbrev pub said : {R : Type 0} → Event R → Call × Reply (StorageFault R)
+said x = (x.call, x.reply)
+
+abbrev pub begun : {F : Type 0} → Start → Call × Reply F
+begun at = (begin, record { answer = Ok (started at); buffer = [] })
+
+-- the first entry of the root directory: begin was accepted and list too; or begin was refused, and nothing else was
+-- called; or begin was accepted, and list refused. The buffer has n bytes.
+abbrev pub IsListing : {R : Type 0} → List (Event R) → ℕ → Result Entry (Refusal (StorageFault R)) → List ℕ → Type 0
+IsListing xs n (Ok entry) buffer = (at : Start) × (map said xs ≡ begun at ∷ (list [] 0 n, record { answer = Ok (listed entry); buffer = buffer }) ∷ [])
+IsListing xs n (Err why) buffer =
+    (map said xs ≡ (begin, record { answer = Err why; buffer = [] }) ∷ [])
+    ⊎ ((at : Start) × (map said xs ≡ begun at ∷ (list [] 0 n, record { answer = Err why; buffer = buffer }) ∷ []))
