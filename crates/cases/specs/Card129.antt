@@ -5,14 +5,10 @@ use Rattle.device.specs.declared.question.Area.TheVariants as area
 use Rattle.device.specs.declared.question.Question.{Question}
 use Rattle.device.specs.Answer.{Answer}
 use Rattle.device.specs.Program.{Meaning, asked, result}
-use Rattle.tree.specs.Shape.{Shape}
 use Rattle.layers.specs.declared.fault.StorageFault.{StorageFault}
 use Rattle.layers.specs.Anchor.{Anchor}
 use Rattle.layers.specs.Verity.{verity}
-
--- 128 slots of 32 bytes in a block of 4,096, over n data blocks
-abbrev pub usual : ℕ → Shape
-usual n = record { data_block = 4096; hash_block = 4096; blocks = n; slot = 32 }
+use Rattle.images.specs.Shapes.{usual}
 
 -- a block by the bytes that its first three slots are filled with
 abbrev pub slots : ℕ → ℕ → ℕ → List ℕ

@@ -1,5 +1,3 @@
-pub mod Reading
-pub mod Volumes
 pub mod Card129
 pub mod Worked
 pub mod SmallCard

@@ -6,7 +6,7 @@ use Rattle.volume.specs.declared.fault.PathRule.TheVariants as path_rule
 use Rattle.volume.specs.declared.fault.PathFault.TheVariants as path
 use Rattle.calls.specs.declared.refusal.Refusal.TheVariants as refusal
 use Rattle.calls.specs.Calls.{open_file}
-use Rattle.cases.specs.Reading.{line, lines, image_of, reply, begun, content}
+use Rattle.images.specs.Reading.{line, lines, image_of, reply, begun, content}
 
 abbrev pub mixed : List ℕ
 mixed =

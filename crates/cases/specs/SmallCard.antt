@@ -5,7 +5,7 @@ use Rattle.volume.specs.declared.fault.PathRule.TheVariants as path_rule
 use Rattle.volume.specs.declared.fault.PathFault.TheVariants as path
 use Rattle.calls.specs.declared.refusal.Refusal.TheVariants as refusal
 use Rattle.calls.specs.Calls.{begin, list, started, listed, fresh}
-use Rattle.cases.specs.Reading.{image_of, reply, begun, content}
+use Rattle.images.specs.Reading.{image_of, reply, begun, content}
 
 abbrev pub small : List ℕ
 small =

@@ -13,9 +13,10 @@ use Rattle.volume.specs.declared.fault.PathRule.TheVariants as path_rule
 use Rattle.calls.specs.declared.refusal.MountRule.TheVariants as mount_rule
 use Rattle.calls.specs.declared.refusal.Refusal.TheVariants as refusal
 use Rattle.calls.specs.Calls.{read, started, opened, count}
-use Rattle.cases.specs.Reading.{reply, begun}
-use Rattle.cases.specs.Volumes.{v, volume_with, file_a, chain, starting, opening, start_breaks, breaks, no_path}
-use Rattle.cases.specs.Card129.{usual, slots, check_128, asked_128, top, low, last}
+use Rattle.images.specs.Shapes.{usual}
+use Rattle.images.specs.Reading.{reply, begun}
+use Rattle.images.specs.Volumes.{v, volume_with, file_a, chain, starting, opening, start_breaks, breaks, no_path}
+use Rattle.cases.specs.Card129.{slots, check_128, asked_128, top, low, last}
 
 -- the questions for a block of 4,096 bytes of each area
 abbrev pub tree_block : ℕ → Question

@@ -18,7 +18,7 @@ use Rattle.calls.specs.declared.refusal.Refusal.TheVariants.{Mount, Volume, Path
 use Rattle.calls.specs.Calls.{begin, open_file, Reply, started, opened, fresh}
 use Rattle.calls.specs.Image.{named, image_reply, image_state}
 use Rattle.calls.specs.Law.{Event, Agrees, IsToBlame}
-use Rattle.cases.specs.Volumes.{file_a}
+use Rattle.images.specs.Volumes.{file_a}
 use Rattle.mount_cases.specs.Calls.{holding}
 use Rattle.mount_cases.specs.Cards.{data_of, tree_of, card_of_v, card_of_129}
 

@@ -8,8 +8,8 @@ use Rattle.calls.specs.declared.refusal.Refusal.TheVariants.{Mount}
 use Rattle.calls.specs.Calls.{begin, open_file, read, whole, list, close, Reply, State, started, opened, count, all, listed, closed, fresh}
 use Rattle.calls.specs.Mount.{made, mount}
 use Rattle.device.specs.Program.{asked, result}
-use Rattle.cases.specs.Reading.{reply, begun}
-use Rattle.cases.specs.Volumes.{v, file_a, one}
+use Rattle.images.specs.Reading.{reply, begun}
+use Rattle.images.specs.Volumes.{v, file_a, one}
 use Rattle.mount_cases.specs.Cards.{giving}
 
 -- refused by a rule of the mount, with a buffer of n zeros

@@ -7,7 +7,7 @@ use Rattle.tree.specs.Tree.{block_of}
 use Rattle.layers.specs.Publisher.{Publisher, anchor_of}
 use Rattle.calls.specs.Calls.{begin}
 use Rattle.calls.specs.Mount.{Mounted, made, mount}
-use Rattle.cases.specs.Volumes.{v}
+use Rattle.images.specs.Volumes.{v}
 
 -- the questions for n bytes of block k of each area
 abbrev pub data_of : ℕ → ℕ → Question

@@ -5,7 +5,7 @@ use Rattle.device.specs.Program.{asked, result}
 use Rattle.volume.specs.Fetches.{fetch_blocks}
 use Rattle.calls.specs.Calls.{begin, read, list}
 use Rattle.calls.specs.Mount.{mount}
-use Rattle.cases.specs.Volumes.{v, file_a}
+use Rattle.images.specs.Volumes.{v, file_a}
 use Rattle.mount_cases.specs.Cards.{data_of, giving, all_but, mount_of_v, begun_mount}
 
 -- three blocks of four bytes

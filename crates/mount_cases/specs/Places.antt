@@ -7,8 +7,8 @@ use Rattle.volume.specs.Fetches.{by_blocks}
 use Rattle.calls.specs.declared.refusal.Refusal.{Refusal}
 use Rattle.calls.specs.declared.refusal.Refusal.TheVariants.{Volume, Path}
 use Rattle.calls.specs.Calls.{Call, State, Accepted, begin, open_file, read, whole, list, call_rules, fresh}
-use Rattle.cases.specs.Reading.{begun}
-use Rattle.cases.specs.Volumes.{v, file_a, header_words, volume_of, one}
+use Rattle.images.specs.Reading.{begun}
+use Rattle.images.specs.Volumes.{v, file_a, header_words, volume_of, one}
 use Rattle.mount_cases.specs.Cards.{refusing, all_but}
 
 -- what a call comes to on an image of 512 bytes, by blocks of n bytes of a device

@@ -1,8 +1,8 @@
 -- The state after a call: whether it has begun, and how many handles are held.
 use Rattle.std.specs.Prelude.{◌≡◌, [], codes}
 use Rattle.calls.specs.Calls.{begin, open_file, read, whole, list, close, fresh}
-use Rattle.cases.specs.Reading.{then}
-use Rattle.cases.specs.Volumes.{v, volume_with, file_a}
+use Rattle.images.specs.Reading.{then}
+use Rattle.images.specs.Volumes.{v, volume_with, file_a}
 use Rattle.mount_cases.specs.Calls.{holding, only_held}
 
 pub record StateCases : Type 0 where

@@ -3,7 +3,7 @@ use Rattle.std.specs.Prelude.{◌≡◌, ℕ, List, [], ◌∷◌, ◌++◌, rep
 use Rattle.tree.specs.Shape.{Shape, fanout, levels_of, levels, width, tree_blocks, start}
 use Rattle.tree.specs.Tree.{salted, block_of, in_slot, node, level, tree, root}
 use Rattle.tree.specs.Path.{held, above}
-use Rattle.cases.specs.Card129.{usual}
+use Rattle.images.specs.Shapes.{usual}
 use Rattle.mount_cases.specs.Cards.{card_of_129}
 
 -- three data blocks of two bytes under tree blocks of two slots of two bytes, with a digest of one byte, the second

@@ -1,9 +1,7 @@
 // A use of a mount of two calls: it keeps the law of runs, by the contracts of the mount alone.
-ghost use Rattle.std.specs.Prelude.{◌≡◌, OnErr, length, replicate, true};
+ghost use Rattle.std.specs.Prelude.{◌≡◌, OnErr, length, replicate};
 ghost use Rattle.calls.specs.Law.{Kept, Used};
 ghost use Rattle.calls.specs.Mount.{made};
-ghost use Rattle.geometry.specs.Limits.{within};
-ghost use Rattle.layers.specs.Publisher.{Whole};
 ghost use Rattle.verity.specs.Anchored.{told_by};
 ghost use Rattle.mount.specs.Law.{IsLabelOf};
 ghost use Rattle.mount.specs.Mount.{device_of, mounted_of};
@@ -43,7 +41,7 @@ pub fn list_first<H: Digest + Drop, D: Device>(
     device: D,
     buf: &mut [u8],
 ) -> (D, Result<Entry, Refusal<StorageFault<D::Refusal>>>)
-    ensures calls { (xs : _) × (n : _) × Used D.meaning D.moves (made (told_by H.NUMBER H.LEN H.meaning label.now)) device xs n result.0 × IsListing xs (length buf.old) result.1 buf.new × ((p : _) → IsLabelOf H.NUMBER H.LEN H.meaning p label.now → Whole p → within p.shape ≡ true → Kept D.meaning D.moves p device xs result.0) }
+    ensures calls { (xs : _) × (n : _) × Used D.meaning D.moves (made (told_by H.NUMBER H.LEN H.meaning label.now)) device xs n result.0 × IsListing xs (length buf.old) result.1 buf.new × ((p : _) → IsLabelOf H.NUMBER H.LEN H.meaning p label.now → Kept D.meaning D.moves p device xs result.0) }
     ensures zeros { OnErr result.1 (buf.new ≡ replicate (length buf.old) 0) }
 {
     let mut mount = Mount::new(digest, label, device);

@@ -4,7 +4,7 @@ use Rattle.volume.specs.declared.types.Kind.{Kind}
 use Rattle.volume.specs.declared.types.Kind.TheVariants.{HardLink, Directory, File, SymbolicLink, BlockDevice, CharDevice, Socket, Pipe}
 use Rattle.volume.specs.declared.fault.VolumeRule.TheVariants.{Range, Name, HeaderSum, Next}
 use Rattle.calls.specs.Calls.{opened, listed}
-use Rattle.cases.specs.Volumes.{header_named, header_words, header_long, named_volume, volume_of, opening, listing, breaks}
+use Rattle.images.specs.Volumes.{header_named, header_words, header_long, named_volume, volume_of, opening, listing, breaks}
 
 -- a volume whose name of 16 bytes moves the first header to 48, where a link to 32 stands
 abbrev pub first_at_48 : List ℕ

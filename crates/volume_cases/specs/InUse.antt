@@ -4,7 +4,7 @@ use Rattle.volume.specs.declared.types.Kind.TheVariants.{HardLink}
 use Rattle.volume.specs.declared.fault.VolumeRule.TheVariants.{Range, Info, Data, LinkedDirectory}
 use Rattle.volume.specs.declared.fault.PathRule.TheVariants.{Missing, NotDirectory, NotFile}
 use Rattle.calls.specs.Calls.{opened, listed}
-use Rattle.cases.specs.Volumes.{header_named, header_words, volume_of, chain_to, opening, listing, breaks, no_path}
+use Rattle.images.specs.Volumes.{header_named, header_words, volume_of, chain_to, opening, listing, breaks, no_path}
 
 pub record UseCases : Type 0 where
   -- a link's info is a multiple of 16, a file's is 0

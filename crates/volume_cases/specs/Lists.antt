@@ -3,7 +3,7 @@ use Rattle.std.specs.Prelude.{◌≡◌, ℕ, List, [], ◌∷◌, ◌++◌, cod
 use Rattle.volume.specs.declared.types.Kind.TheVariants.{File}
 use Rattle.volume.specs.declared.fault.PathRule.TheVariants.{Missing}
 use Rattle.calls.specs.Calls.{opened, listed}
-use Rattle.cases.specs.Volumes.{v, header_named, header_words, volume_of, opening, listing, no_path}
+use Rattle.images.specs.Volumes.{v, header_named, header_words, volume_of, opening, listing, no_path}
 
 -- entries `a`, `.` and `a` again, of 0, 1 and 2 bytes, and `..`
 abbrev pub two_of_a_name : List ℕ

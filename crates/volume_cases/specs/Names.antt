@@ -3,7 +3,7 @@ use Rattle.std.specs.Prelude.{◌≡◌, [], ◌∷◌, ◌++◌, replicate, cod
 use Rattle.volume.specs.declared.types.Kind.TheVariants.{File}
 use Rattle.volume.specs.declared.fault.VolumeRule.TheVariants.{Name}
 use Rattle.calls.specs.Calls.{opened, listed}
-use Rattle.cases.specs.Volumes.{header_named, header_long, volume_of, opening, listing, breaks}
+use Rattle.images.specs.Volumes.{header_named, header_long, volume_of, opening, listing, breaks}
 
 pub record NameCases : Type 0 where
   -- a slash as the first byte, the third, and the last of 127

@@ -3,7 +3,7 @@ use Rattle.std.specs.Prelude.{◌≡◌, ℕ, List, [], ◌++◌, codes, Ok}
 use Rattle.volume.specs.declared.fault.VolumeRule.TheVariants.{Range, Info}
 use Rattle.volume.specs.declared.fault.PathRule.TheVariants.{Component, Missing, NotDirectory}
 use Rattle.calls.specs.Calls.{opened}
-use Rattle.cases.specs.Volumes.{v, header_named, header_words, volume_of, opening, listing, breaks_for, no_path}
+use Rattle.images.specs.Volumes.{v, header_named, header_words, volume_of, opening, listing, breaks_for, no_path}
 
 -- a directory `a`, in it another, `bc`, and in that an empty file `a`
 abbrev pub nested : List ℕ

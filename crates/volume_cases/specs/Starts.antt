@@ -2,8 +2,8 @@
 use Rattle.std.specs.Prelude.{◌≡◌, ℕ, List, [], ◌∷◌, ◌++◌, replicate, Ok}
 use Rattle.volume.specs.declared.fault.VolumeRule.TheVariants.{Text, Size, Sum, VolumeName}
 use Rattle.calls.specs.Calls.{started}
-use Rattle.cases.specs.Reading.{image_of}
-use Rattle.cases.specs.Volumes.{volume_with, header_words, volume_before, named_volume, volume_of, starting, start_breaks}
+use Rattle.images.specs.Reading.{image_of}
+use Rattle.images.specs.Volumes.{volume_with, header_words, volume_before, named_volume, volume_of, starting, start_breaks}
 
 -- a start that is its first three words alone
 abbrev pub text_and_size : ℕ → ℕ → ℕ → List ℕ

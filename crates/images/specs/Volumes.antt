@@ -8,7 +8,7 @@ use Rattle.volume.specs.Use.{Extent}
 use Rattle.calls.specs.declared.refusal.Refusal.{Refusal}
 use Rattle.calls.specs.declared.refusal.Refusal.TheVariants as refusal
 use Rattle.calls.specs.Calls.{begin, open_file, list, Given, State, fresh}
-use Rattle.cases.specs.Reading.{image_of, reply, then, begun}
+use Rattle.images.specs.Reading.{image_of, reply, then, begun}
 
 -- V, with a given word at 12
 abbrev pub volume_with : ℕ → List ℕ
