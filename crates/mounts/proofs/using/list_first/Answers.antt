@@ -19,5 +19,5 @@ returns-clause-calls g c =
       n,
       subst (λ v. Used meaning moves v c.args.device xs n c.into_device.result) c.new-mount.ensures.made on_device,
       c.first_entry-answer.ensures.calls.2,
-      λ p label whole limits. subst (λ x. Kept meaning moves p x xs c.into_device.result) c.new-mount.ensures.device (c.new-mount.ensures.law p label whole limits xs n c.into_device.result given).0,
+      λ p label. subst (λ x. Kept meaning moves p x xs c.into_device.result) c.new-mount.ensures.device (c.new-mount.ensures.law p label xs n c.into_device.result given).0,
     )
