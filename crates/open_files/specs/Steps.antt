@@ -17,7 +17,7 @@ use Rattle.open_files.specs.declared.faults.FileFault.{FileFault}
 use Rattle.open_files.specs.declared.faults.FileFault.TheVariants as file_fault
 use Rattle.open_files.specs.Files.{files_of, opened_of, mount_of, data_of, file_of, IsFull, Keeps, Stays}
 
--- an accepted reply with no buffer, and a refused one
+-- an accepted reply with no buffer
 abbrev pub accepted : {F : Type 0} → Given → Reply F
 accepted given = record { answer = Ok given; buffer = [] }
 

@@ -34,13 +34,13 @@ fn put_back(files: &mut Vec<OpenFile>, i: usize, file: OpenFile)
 }
 
 impl<H: Digest, D: Device> OpenFiles<H, D> {
-    ghost use Rattle.std.specs.Prelude.{◌≡◌, [], Ok, Err, ◌<◌, IfSome, IfErr, OnErr, OnOk, length, replicate, vec_len};
+    ghost use Rattle.std.specs.Prelude.{◌≡◌, [], ◌<◌, IfSome, OnErr, OnOk, length, replicate, vec_len};
     ghost use Rattle.calls.specs.Calls as calls_of;
     ghost use Rattle.mount.specs.Mount.{replied};
-    ghost use Rattle.open_files.specs.Files.{Keeps, Stays, file_of, files_of, opened_of, place_of, without};
+    ghost use Rattle.open_files.specs.Files.{Keeps, files_of, opened_of, place_of, without};
     ghost use Rattle.open_files.specs.Steps.{AsksFor, NoneOpen, Opens, Stepped, SteppedFor, accepted};
 
-    /// The mount's `begin`.
+    /// The mount's `begin`: the volume's size and the offset of its first header, or the mount's refusal (2, 10, 11, 20 to 23).
     pub fn begin(&mut self) -> Result<Start, Refusal<StorageFault<D::Refusal>>>
         ensures step { Stepped D.meaning D.moves self.old calls_of.begin (replied calls_of.started [] result) self.new }
         ensures kept { Keeps self.old self.new }
@@ -48,7 +48,8 @@ impl<H: Digest, D: Device> OpenFiles<H, D> {
         self.mount.begin()
     }
 
-    /// The mount's `list`.
+    /// The mount's `list`: an entry of a directory, with its name in the buffer, or the mount's refusal (2, 54, 52, 40, and those
+    /// of the walk). Refused, the buffer has zeros alone.
     pub fn list(
         &mut self,
         path: &[u8],
@@ -62,7 +63,8 @@ impl<H: Digest, D: Device> OpenFiles<H, D> {
         self.mount.list(path, index, buf)
     }
 
-    /// Opens the file that a path names, and keeps it by the number of accepted opens before it.
+    /// Opens the file that a path names, and keeps it by the number of accepted opens before it. Refused as the mount's `open`
+    /// is (2, 54, 53, 40, and those of the walk), or where there is no memory to keep one more file.
     pub fn open(&mut self, path: &[u8]) -> Result<Opened, OpenFault<D::Refusal>>
         ensures step { Opens D.meaning D.moves self.old path.now result self.new }
     {
@@ -92,7 +94,8 @@ impl<H: Digest, D: Device> OpenFiles<H, D> {
         self.files.iter().position(|file| file.number == number)
     }
 
-    /// Reads from an offset of the file of a number, as the mount's `read` does.
+    /// Reads from an offset of the file of a number, as the mount's `read` does: how many bytes it gave, with zeros behind them.
+    /// Refused where no such file is open, or as the mount's is (2, 54, 50, 51, 10, 11); the buffer then has zeros alone.
     pub fn read(
         &mut self,
         number: usize,
@@ -112,7 +115,8 @@ impl<H: Digest, D: Device> OpenFiles<H, D> {
         }
     }
 
-    /// Reads the file of a number whole, as the mount's `whole` does, and closes it. Refused, it stays open.
+    /// Reads the file of a number into a buffer of its size, as the mount's `whole` does, and closes it. Refused where no such
+    /// file is open, or as the mount's is (2, 54, 50, 52, 10, 11); it then stays open, and the buffer has zeros alone.
     pub fn whole(&mut self, number: usize, buf: &mut [u8]) -> Result<(), FileFault<D::Refusal>>
         ensures step { AsksFor D.meaning D.moves self.old number (λ file. calls_of.whole file (length buf.old)) (λ none. calls_of.all) buf.new result self.new }
         ensures zeros { OnErr result (buf.new ≡ replicate (length buf.old) 0) }

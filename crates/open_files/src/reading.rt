@@ -59,7 +59,8 @@ fn read_whole<H: Digest, D: Device>(
     }
 }
 
-/// The bytes of the file at a path: the mount's `open`, and then `whole`. Whatever comes of them, no handle is held for it afterwards.
+/// The bytes of the file at a path: the mount's `open`, and then `whole`. Refused as these are, or where there is no memory
+/// for the bytes; whatever comes of them, no handle is held for the file afterwards.
 pub fn contents<H: Digest, D: Device>(
     heap: Global,
     mount: &mut Mount<H, D>,
@@ -118,7 +119,8 @@ fn is_behind_last<F>(refusal: &Refusal<F>, length: usize) -> bool
     }
 }
 
-/// The entry with this number in the directory at a path, counted from 0 as the mount's `list` does, or none behind the last.
+/// The entry with this number in the directory at a path, counted from 0 as the mount's `list` does, or none behind the last
+/// (where `list` is refused by 41 at the end of the path). Other refusals are the mount's.
 pub fn entry_at<H: Digest, D: Device>(
     mount: &mut Mount<H, D>,
     path: &[u8],
