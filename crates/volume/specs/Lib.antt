@@ -6,3 +6,4 @@ pub mod Header
 pub mod Walk
 pub mod Paths
 pub mod Use
+pub mod Laws
