@@ -15,7 +15,8 @@ The list is blocks of lines, parted by an empty line; `#` begins a comment. The 
   name: what is wrong, one word
   file: the file of definitions, from the top of the repository
   old: a text that stands once in it
-  new: what takes its place; further lines file, old and new change more
+  new: what takes its place; further lines file, old and new change more. A line that begins with `+` goes on with the
+       text of the one before it, on a line of its own
   by: CRATE ..       the crates whose cases are to refuse it; they are tried first
   law: CRATE ..      in place of `by`: only a law can refuse it, a theorem whose proof is in this crate
 
@@ -66,6 +67,10 @@ class Mutation:
         if not self.changes or bool(self.by) == bool(self.law):
             sys.exit(f"{self.name}: wants a change, and either `by` or `law`")
 
+    def crates(self):
+        """The crates whose files are changed."""
+        return {change["file"].split("/")[1] for change in self.changes}
+
     def make(self, top):
         """Changes the files of a copy."""
         for change in self.changes:
@@ -86,7 +91,9 @@ def read_list(path):
             line = line.rstrip("\n")
             if line.startswith("#"):
                 continue
-            if line.strip():
+            if line.startswith("+") and block:
+                block[-1] = (block[-1][0], block[-1][1] + "\n" + line[1:])
+            elif line.strip():
                 key, colon, value = line.partition(":")
                 if not colon:
                     sys.exit(f"{path}:{number}: no `KEY: VALUE`")
@@ -230,12 +237,21 @@ def first_refusal(room, crate, said):
     return (found.group(0) if found else said.strip().split("\n")[-1]), bool(found and found.group(0).startswith(f"fn {crate}::"))
 
 
-def attempt(mutation, cases, bare_room, whole_room, every):
+def copy_again(source, room, changed, crates):
+    """A copy of a copy. Of the crates that no change reaches the files are shared with the first."""
+    os.makedirs(os.path.join(room, "crates"))
+    shutil.copy(os.path.join(source, "crates.txt"), room)
+    for name in os.listdir(os.path.join(source, "crates")):
+        old, new = (os.path.join(top, "crates", name) for top in (source, room))
+        subprocess.run(["cp", "-a" if below(crates, [name]) & changed else "-al", old, new], check=True)
+
+
+def attempt(mutation, cases, crates, bare_room, whole_room, every):
     """Makes one mutation in a copy, and says what refuses it: a line, and whether that is as the list has it."""
     source = whole_room if mutation.law else bare_room
     with tempfile.TemporaryDirectory(dir=os.path.dirname(bare_room)) as room:
         top = os.path.join(room, "copy")
-        subprocess.run(["cp", "-a", "--reflink=auto", source, top], check=True)
+        copy_again(source, top, mutation.crates(), crates)
         try:
             mutation.make(top)
         except (ValueError, OSError) as error:
@@ -280,7 +296,7 @@ def main():
     bare_room, whole_room = os.path.join(room, "bare"), os.path.join(room, "whole")
     try:
         if any(mutation.by for mutation in chosen):
-            changed = {change["file"].split("/")[1] for mutation in mutations if mutation.by for change in mutation.changes}
+            changed = set().union(*(mutation.crates() for mutation in mutations if mutation.by))
             copy(below(crates, cases), bare_room)
             for name in below(crates, cases) - set(cases):
                 if below(crates, [name]) & changed:
@@ -298,7 +314,7 @@ def main():
                     sys.exit(f"{said}\n{crate} is not proved")
         print(f"{len(chosen)} mutations", flush=True)
         with ThreadPoolExecutor(arguments.jobs) as pool:
-            jobs = [pool.submit(attempt, mutation, cases, bare_room, whole_room, arguments.all) for mutation in chosen]
+            jobs = [pool.submit(attempt, mutation, cases, crates, bare_room, whole_room, arguments.all) for mutation in chosen]
             bad = 0
             for mutation, job in zip(chosen, jobs):
                 line, good = job.result()

@@ -67,7 +67,7 @@ module _ (F : Type 0) (limit : ℕ) where
         (omega arith, (λ f. refl), λ bytes. quiet_named F at bytes (zero_at (drop 16 bytes)) limit))
 
 -- an accepted choice
-ok_behind : {X E : Type 0} (b : Bool) (e : E) (y : Result X E) (x : X) → cond b (Err e) y ≡ Ok x → (b ≡ false) × (y ≡ Ok x)
+pub ok_behind : {X E : Type 0} (b : Bool) (e : E) (y : Result X E) (x : X) → cond b (Err e) y ≡ Ok x → (b ≡ false) × (y ≡ Ok x)
 ok_behind {X = X} {E = E} true e y x is = let bad : Result X E = Err e in let good : Result X E = Ok x in let same : bad ≡ good = is in cc
 ok_behind false e y x is = (refl, is)
 

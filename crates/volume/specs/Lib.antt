@@ -7,3 +7,4 @@ pub mod Header
 pub mod Walk
 pub mod Paths
 pub mod Use
+pub mod Laws

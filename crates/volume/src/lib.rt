@@ -2,7 +2,9 @@
 #![tactic(auto)]
 
 mod fault;
+mod laws;
 mod types;
 
 pub use fault::{PathFault, PathRule, VolumeFault, VolumeRule};
+pub use laws::steps_suffice;
 pub use types::{Entry, Kind, Start};
