@@ -29,13 +29,19 @@ impl LabelText {
 struct TreeLine<'a>(&'a LabelText);
 
 impl fmt::Display for TreeLine<'_> {
-    ghost use Rattle.std.specs.Prelude.{Some};
+    ghost use Rattle.std.specs.Prelude.{◌≡◌, false, Ok, Some};
+    ghost use Rattle.std.specs.Fmt.{DisplaysOnOk};
+    ghost use Rattle.geometry.specs.Limits.{within};
     ghost use Rattle.label_text.specs.Label.{told};
     ghost use Rattle.label_text.specs.Printed.{tree_line, tree_of};
 
     ghost output = { λ line. Some (tree_line (tree_of (told line.0.now))) };
 
-    fn fmt<W: fmt::Write>(&self, f: &mut fmt::Formatter<W>) -> fmt::Result {
+    // a line that is left out is no error of the writer
+    fn fmt<W: fmt::Write>(&self, f: &mut fmt::Formatter<W>) -> fmt::Result
+        ensures writes { DisplaysOnOk W.write_str_gives f.old result (Some (tree_line (tree_of (told self.now.0.now)))) f.new }
+        ensures left_out { within (tree_of (told self.now.0.now)) ≡ false → result ≡ Ok tt }
+    {
         match self.0.geometry() {
             Some(geometry) => write!(f, "Hash blocks:     \t{}\n", geometry.tree_blocks()),
             None => Ok(()),

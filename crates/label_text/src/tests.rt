@@ -101,6 +101,25 @@ fn names_the_line(rt: HostRuntime) -> Result<(), Fail> {
     Ok(())
 }
 
+// A label that no mount takes is printed all the same, without the line of the tree's size.
+#[test]
+fn prints_a_label_outside_the_limits(rt: HostRuntime) -> Result<(), Fail> {
+    let heap = rt.alloc();
+    let text = with(heap, Key::DataBlocks, "Data blocks: 0")?;
+    let printed = match read(&text) {
+        Ok(label) => format!(in heap; "{label}")?,
+        Err(fault) => format!(in heap; "{fault}")?,
+    };
+    let lines = printed.as_str().lines();
+    assert!(rt; lines.count() == 7);
+    assert!(rt;
+        printed.as_str().contains(
+            "Data blocks:     \t0\nData block size: \t512\nHash block size: \t1024\n"
+        )
+    );
+    Ok(())
+}
+
 #[test]
 fn tells_the_fault(rt: HostRuntime) -> Result<(), Fail> {
     let heap = rt.alloc();
