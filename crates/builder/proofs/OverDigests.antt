@@ -70,7 +70,7 @@ module _ (h : List ℕ → List ℕ) (s : Shape) (size : ℕ) (sound : Sound h s
       let one : length image / s.data_block ≡ 1 = count ∙ one_block s sound.wide sound.some none in (
         without_tree h s digests none ∙ sym (ap (lowest h s image) none),
         without_root h s digests none ∙ ap (λ n. flat_map (λ k. h (block_of s.data_block image k)) (range_with_len 0 n)) one ∙ append-nil (h (block_of s.data_block image 0))
-        ∙ sym (ap (λ m. h (node h s image m 0)) none),
+            ∙ sym (ap (λ m. h (node h s image m 0)) none),
       )
   by_levels (inr more) =
       let some = more_blocks s sound.wide more in (

@@ -50,8 +50,9 @@ impl Kitchen {
         rt: &HostRuntime,
         tree: &mut Vec<u8>,
     ) -> anyhow::Result<Published<'_, Sha256>> {
-        let published = Published::build(Sha256, &self.source(), tree.as_mut_slice())
-            .map_err(|fault| anyhow!("{fault}"))?;
+        let published = Published::build(Sha256, &self.source(), tree.as_mut_slice()).map_err(
+            |fault| anyhow!("{fault}"),
+        )?;
         let label = published.label();
         println!(rt;
             "built: {} bytes of image in {} blocks, {} bytes of tree",
@@ -59,10 +60,7 @@ impl Kitchen {
             label.blocks,
             tree.len()
         )?;
-        println!(rt;
-            "the root digest for the sleeve: {}",
-            Digits(label.root)
-        )?;
+        println!(rt; "the root digest for the sleeve: {}", Digits(label.root))?;
         Ok(published)
     }
 
