@@ -1,11 +1,10 @@
 #!/usr/bin/env python3
 """Makes wrong definitions, one at a time, and says which worked case refuses each.
 
-usage: mutate.py [-l LIST] [-j JOBS] [-a] [-k] [NAME ...]
+usage: mutate.py [-l LIST] [-j JOBS] [-k] [NAME ...]
 
   -l LIST   the list of mutations (tools/mutations.txt)
   -j JOBS   how many are tried side by side (1); a check wants a processor and some 2 GB
-  -a        go on after the first crate that refuses, and name every one that does
   -k        keep the room that the checks are made in, and say where it is
   NAME      only the mutations of these names; an end in * stands for all that begin so
 
@@ -17,15 +16,15 @@ The list is blocks of lines, parted by an empty line; `#` begins a comment. The 
   old: a text that stands once in it
   new: what takes its place; further lines file, old and new change more. A line that begins with `+` goes on with the
        text of the one before it, on a line of its own
-  by: CRATE ..       the crates whose cases are to refuse it; they are tried first
+  by: CRATE ..       crates whose cases are to refuse it; one of them is enough
   law: CRATE ..      in place of `by`: only a law can refuse it, a theorem whose proof is in this crate
 
-A case is a theorem by computation, so it needs nothing of the proofs and the code below. Cases are checked over a bare copy:
-the crates that the list changes, and those between them and the cases, have there their definitions and types alone. So a
-proof or a function that breaks is never taken for a refusal. A law is checked over a copy of the whole, and there a refusal may also be a proof that no longer fits:
-what it was has to be looked at.
+A case is a theorem by computation, so it needs nothing of the proofs and the code below it. The crates of cases are put into
+one crate, `rules`, with the definitions and types that they reach, and nothing else of the crates below. So a proof or a
+function there that breaks is never taken for a refusal. A law is checked over a copy of its crate and of those below it, and
+there a refusal may also be a proof that no longer fits: what it was has to be looked at.
 
-For each mutation a line is printed: its name, and `refused` with crate, function and field of the first case that fails;
+For each mutation a line is printed: its name, and `refused` with crate, function and field of the first cases that fail;
 `STILL PROVED`; or `DOES NOT READ`, where the definitions themselves are refused. The status is 0 if all are refused, and
 by a crate that the list names. It wants `rt` on the path.
 """
@@ -40,7 +39,7 @@ from concurrent.futures import ThreadPoolExecutor
 
 HERE = os.path.dirname(os.path.abspath(__file__))
 TOP = os.path.dirname(HERE)
-TYPES = ("struct", "enum", "trait", "const", "type", "union")
+TYPES = ("struct", "enum", "const", "type")
 
 
 class Mutation:
@@ -71,16 +70,16 @@ class Mutation:
         """The crates whose files are changed."""
         return {change["file"].split("/")[1] for change in self.changes}
 
-    def make(self, top):
-        """Changes the files of a copy."""
+    def make(self, top, rules):
+        """Changes the files of a copy; in the one crate they, and the names in them, are called otherwise."""
         for change in self.changes:
-            path = os.path.join(top, change["file"])
-            with open(path, encoding="utf-8") as file:
-                text = file.read()
-            if text.count(change["old"]) != 1:
-                raise ValueError(f"{change['old']!r} stands {text.count(change['old'])} times in {change['file']}")
-            with open(path, "w", encoding="utf-8") as file:
-                file.write(text.replace(change["old"], change["new"]))
+            path, old, new = change["file"], change["old"], change["new"]
+            if rules:
+                path, old, new = rules.places.get(path, path), rules.renamed(old), rules.renamed(new)
+            text = read(os.path.join(top, path))
+            if text.count(old) != 1:
+                raise ValueError(f"{old!r} stands {text.count(old)} times in {path}")
+            write(os.path.join(top, path), text.replace(old, new))
 
 
 def read_list(path):
@@ -149,69 +148,139 @@ def items(text):
             item, kind = [], ""
 
 
-def bare(text, defined):
-    """A source file with its types alone. `defined` has the types of each module, once they are known."""
-    kept, uses = [], []
-    for kind, item in items(text):
-        if any("cfg(test)" in line for line in item):
-            continue
-        if kind in TYPES or kind in ("inner", "mod"):
-            kept.append("\n".join(line for line in item if not line.strip().startswith(("#[", "//"))))
-        elif kind == "use":
-            uses.append(" ".join(line.strip() for line in item if not line.startswith(("#", "//"))))
-        elif kind == "ghost":
-            uses.append("\n".join(line for line in item if not line.startswith(("#", "//"))))
-    body = "\n\n".join(kept)
-    head = []
-    for use in uses:
-        if use.startswith("ghost"):
-            if " ghost " in body or "ghost " in body:
-                head.append(use)
-            continue
-        public, path, names = re.match(r"(pub(?:\([a-z]+\))? )?use ((?:\w+::)*)(.*);", use).groups()
-        names = [name.strip() for name in names.strip("{}").split(",") if name.strip()]
-        if public:
-            names = [name for name in names if name in defined.get(path.split("::")[-2], ())]
-        else:
-            names = [name for name in names if re.search(rf"\b{re.escape(name.split()[-1])}\b", body)]
-        if names:
-            head.append(f"{public or ''}use {path}{{{', '.join(names)}}};")
-    inner = [part for part in kept if part.startswith("#![")]
-    return "\n\n".join(inner + head + [part for part in kept if not part.startswith("#![")]) + "\n"
+class Rules:
+    """One crate of others: all of the crates of cases, and the definitions and types that they reach."""
+
+    def __init__(self, crates, cases):
+        self.names, self.cases = sorted(below(crates, cases)), cases
+        self.defined, self.places = {}, {}
+        for name in self.names:
+            for path in self.sources(name):
+                for line in read(path).split("\n"):
+                    found = re.match(r"pub(?:\(crate\))? (?:struct|enum|const|type) (\w+)", line)
+                    if found:
+                        self.defined[name, found.group(1)] = os.path.basename(path)[:-3]
+        self.specs, self.types = self.reached()
+
+    def reached(self):
+        """The files of definitions and the files of types that the cases reach."""
+        specs, types, texts = set(), {}, []
+        for case in self.cases:
+            names = re.findall(r"^pub mod (\w+)", read(os.path.join(TOP, "crates", case, "specs", "Lib.antt")), re.M)
+            specs.update((case, name) for name in names)
+            texts += [read(self.spec(case, name)) for name in names]
+            for folder, _, files in os.walk(os.path.join(TOP, "crates", case, "proofs")):
+                texts += [read(os.path.join(folder, name)) for name in files]
+        while texts:
+            text = texts.pop()
+            wanted = [(crate, module, "") for crate, module in re.findall(r"\bRattle\.(\w+)\.specs\.(?!declared\.)(\w+)", text)]
+            wanted += [(crate, module, "type") for crate, module in re.findall(r"\bRattle\.(\w+)\.specs\.declared\.(\w+)", text)]
+            wanted += [(owner, module, "type") for owner, module in re.findall(r"\buse crate::([a-z0-9_]+)::(\w+)__", text)]
+            for crate, module, kind in wanted:
+                if crate not in self.names:
+                    continue
+                if kind == "type" and (crate, module) not in types:
+                    types[crate, module] = self.bare(crate, module)
+                    texts.append(types[crate, module])
+                elif not kind and (crate, module) not in specs:
+                    specs.add((crate, module))
+                    texts.append(read(self.spec(crate, module)))
+        return specs, types
+
+    def spec(self, crate, name):
+        return os.path.join(TOP, "crates", crate, "specs", name + ".antt")
+
+    def sources(self, crate):
+        folder = os.path.join(TOP, "crates", crate, "src")
+        return [os.path.join(folder, name) for name in sorted(os.listdir(folder)) if name.endswith(".rt") and name not in ("lib.rt", "tests.rt")]
+
+    def lemmas(self, crate):
+        folder = os.path.join(TOP, "crates", crate, "proofs")
+        names = sorted(os.listdir(folder)) if os.path.isdir(folder) else []
+        return [name[:-5] for name in names if name.endswith(".antt") and name != "Lib.antt"]
+
+    def renamed(self, text):
+        """A text with the names that its parts have in the one crate."""
+        for crate in self.names:
+            text = re.sub(rf"\bRattle\.{crate}\.specs\.declared\.(\w+)", rf"Rattle.rules.specs.declared.{crate}_\1", text)
+            text = re.sub(rf"\bRattle\.{crate}\.specs\.(\w+)", rf"Rattle.rules.specs.{crate}_\1", text)
+            for lemma in self.lemmas(crate):
+                text = re.sub(rf"\bRattle\.{crate}\.proofs\.{lemma}\b", f"Rattle.rules.proofs.{crate}_{lemma}", text)
+            text = re.sub(rf"\bRattle\.{crate}\.proofs\.", f"Rattle.rules.proofs.{crate}.", text)
+        return text
+
+    def bare(self, crate, module):
+        """A source file with its types alone."""
+        kept, uses = [], []
+        for kind, item in items(read(os.path.join(TOP, "crates", crate, "src", module + ".rt"))):
+            if kind in TYPES:
+                kept.append("\n".join(line for line in item if not line.strip().startswith(("#[", "//"))))
+            elif kind in ("use", "ghost"):
+                uses.append("\n".join(line.strip() for line in item if not line.startswith(("#", "//"))))
+        body, head = "\n\n".join(kept), []
+        for use in uses:
+            if use.startswith("ghost"):
+                if "ghost " in body:
+                    head.append(use)
+                continue
+            path, names = re.match(r"(?:pub(?:\(\w+\))? )?use ((?:\w+::)*)(.*);", use.replace("\n", " "), re.S).groups()
+            owner = crate if path.startswith("crate::") else path[:-2]
+            for name in (name.strip() for name in names.strip("{} ").split(",")):
+                if not name or not re.search(rf"\b{re.escape(name)}\b", body):
+                    continue
+                if (owner, name) in self.defined:
+                    head.append(f"use crate::{owner}::{self.defined[owner, name]}__{name};")
+                elif owner.startswith("std"):
+                    head.append(f"use {path}{name};")
+        return "\n".join(head) + "\n\n" + body + "\n"
+
+    def write(self, room):
+        """Writes the crate, and crates.txt."""
+        here = os.path.join(room, "crates", "rules")
+        for folder in ("src", "specs", "proofs"):
+            os.makedirs(os.path.join(here, folder))
+        modules = [f"{crate}_{module}" for crate, module in sorted(self.types)] + self.cases
+        for (crate, module), text in self.types.items():
+            text = re.sub(r"\buse crate::([a-z0-9_]+)::(\w+)__", r"use crate::\1_\2::", text)
+            write(os.path.join(here, "src", f"{crate}_{module}.rt"), self.renamed(text))
+        for crate, name in self.specs:
+            self.places[f"crates/{crate}/specs/{name}.antt"] = f"crates/rules/specs/{crate}_{name}.antt"
+            write(os.path.join(here, "specs", f"{crate}_{name}.antt"), self.renamed(read(self.spec(crate, name))))
+        lemmas = []
+        for crate in self.cases:
+            home = os.path.join(TOP, "crates", crate)
+            for lemma in self.lemmas(crate):
+                lemmas.append(f"{crate}_{lemma}")
+                write(os.path.join(here, "proofs", f"{crate}_{lemma}.antt"), self.renamed(read(os.path.join(home, "proofs", lemma + ".antt"))))
+            for function in sorted(os.listdir(os.path.join(home, "proofs"))):
+                answers = os.path.join(home, "proofs", function, "Answers.antt")
+                if os.path.exists(answers):
+                    os.makedirs(os.path.join(here, "proofs", crate, function))
+                    write(os.path.join(here, "proofs", crate, function, "Answers.antt"), self.renamed(read(answers)))
+            write(os.path.join(here, "src", crate + ".rt"), self.renamed(read(os.path.join(home, "src", "lib.rt")).replace("#![tactic(auto)]\n", "")))
+        write(os.path.join(here, "specs", "Lib.antt"), "".join(f"pub mod {crate}_{name}\n" for crate, name in sorted(self.specs)))
+        write(os.path.join(here, "proofs", "Lib.antt"), "".join(f"pub mod {name}\n" for name in lemmas))
+        write(os.path.join(here, "src", "lib.rt"), "#![tactic(auto)]\n\n" + "".join(f"pub mod {name};\n" for name in modules))
+        write(os.path.join(room, "crates.txt"), "rules:\n")
 
 
-def strip(crate):
-    """Leaves of a crate its definitions and its types."""
-    source = os.path.join(crate, "src")
-    for folder in (os.path.join(crate, "proofs"), os.path.join(crate, "out"), os.path.join(source, "tests")):
-        shutil.rmtree(folder, ignore_errors=True)
-    texts = {}
-    for name in os.listdir(source):
-        path = os.path.join(source, name)
-        if name == "tests.rt":
-            os.remove(path)
-        elif name.endswith(".rt"):
-            with open(path, encoding="utf-8") as file:
-                texts[name] = file.read()
-    defined = {}
-    for name, text in texts.items():
-        types = (re.match(r"(?:pub(?:\([a-z]+\))? )?(?:struct|enum|trait|const|type) (\w+)", line) for line in text.split("\n"))
-        defined[name[:-3]] = {found.group(1) for found in types if found}
-    for name, text in texts.items():
-        with open(os.path.join(source, name), "w", encoding="utf-8") as file:
-            file.write(bare(text, defined))
+def read(path):
+    with open(path, encoding="utf-8") as file:
+        return file.read()
+
+
+def write(path, text):
+    with open(path, "w", encoding="utf-8") as file:
+        file.write(text)
 
 
 def copy(names, room):
-    """A copy of some crates of the repository."""
-    os.makedirs(os.path.join(room, "crates"))
-    with open(os.path.join(TOP, "crates.txt"), encoding="utf-8") as file:
-        lines = [line for line in file if line.split(":")[0].split(" ")[0] in names]
-    with open(os.path.join(room, "crates.txt"), "w", encoding="utf-8") as file:
-        file.writelines(lines)
+    """A copy of some crates of the repository, with what is kept of their checks."""
+    os.makedirs(os.path.join(room, "crates"), exist_ok=True)
+    lines = [line + "\n" for line in read(os.path.join(TOP, "crates.txt")).split("\n") if re.split("[: ]", line)[0] in names]
+    write(os.path.join(room, "crates.txt"), "".join(lines))
     for name in names:
-        leave = shutil.ignore_patterns("must-fail", "data")
-        shutil.copytree(os.path.join(TOP, "crates", name), os.path.join(room, "crates", name), ignore=leave, symlinks=True)
+        shutil.copytree(os.path.join(TOP, "crates", name), os.path.join(room, "crates", name), ignore=shutil.ignore_patterns("must-fail", "data"), symlinks=True)
 
 
 def check(room, crate):
@@ -220,59 +289,60 @@ def check(room, crate):
     return run.returncode == 0, run.stdout
 
 
-def first_refusal(room, crate, said):
-    """What refused: a field of a case, or the first error, and whether a case did."""
+def refusals(room, crate, said):
+    """The functions that are refused, each with its first field, and the first error that is no case's."""
+    fields, other = {}, None
     for line in said.split("\n"):
         found = re.match(r"(?:\./)?(\S+\.(?:antt|rt)):(\d+):(\d+): error:? ?(.*)", line)
         if not found:
             continue
         path, row, _, message = found.groups()
         if not path.startswith("proofs/"):
-            return f"{path}:{row}: {message}", False
-        with open(os.path.join(room, "crates", crate, path), encoding="utf-8") as file:
-            written = file.read().split("\n")[int(row) - 1].strip()
-        field = written.split(" ")[0].rstrip(":")
-        return f"{os.path.basename(os.path.dirname(path))}, {field}", True
-    found = re.search(r"^fn (\S+): not proved.*", said, re.M) or re.search(r"^.*error.*$", said, re.M)
-    return (found.group(0) if found else said.strip().split("\n")[-1]), bool(found and found.group(0).startswith(f"fn {crate}::"))
+            other = other or f"{path}:{row}: {message}"
+            continue
+        written = read(os.path.join(room, "crates", crate, path)).split("\n")[int(row) - 1].strip()
+        function = "::".join(path.split("/")[1:-1]) or os.path.basename(path)
+        fields.setdefault(function, written.split(" ")[0])
+    for function in re.findall(rf"^fn {crate}::(\S+): not proved", said, re.M):
+        fields.setdefault(function, "?")
+    return fields, other
 
 
-def copy_again(source, room, changed, crates):
-    """A copy of a copy. Of the crates that no change reaches the files are shared with the first."""
+def copy_again(source, room, changed):
+    """A copy of a copy. Of the crates that are not changed the files are shared with the first."""
     os.makedirs(os.path.join(room, "crates"))
     shutil.copy(os.path.join(source, "crates.txt"), room)
     for name in os.listdir(os.path.join(source, "crates")):
         old, new = (os.path.join(top, "crates", name) for top in (source, room))
-        subprocess.run(["cp", "-a" if below(crates, [name]) & changed else "-al", old, new], check=True)
+        subprocess.run(["cp", "-a" if name in changed else "-al", old, new], check=True)
 
 
-def attempt(mutation, cases, crates, bare_room, whole_room, every):
+def attempt(mutation, crates, rules, rules_room, whole_room):
     """Makes one mutation in a copy, and says what refuses it: a line, and whether that is as the list has it."""
-    source = whole_room if mutation.law else bare_room
-    with tempfile.TemporaryDirectory(dir=os.path.dirname(bare_room)) as room:
+    source = whole_room if mutation.law else rules_room
+    with tempfile.TemporaryDirectory(dir=os.path.dirname(source)) as room:
         top = os.path.join(room, "copy")
-        copy_again(source, top, mutation.crates(), crates)
+        reached = {name for name in crates if below(crates, [name]) & mutation.crates()}
+        copy_again(source, top, reached if mutation.law else {"rules"})
         try:
-            mutation.make(top)
+            mutation.make(top, None if mutation.law else rules)
         except (ValueError, OSError) as error:
             return f"DOES NOT FIT   {error}", False
-        expected = mutation.law or mutation.by
-        others = [] if mutation.law else [crate for crate in cases if crate not in expected]
-        refusals = []
-        for crate in expected + others:
-            if refusals and not every:
-                break
+        for crate in mutation.law or ["rules"]:
             proved, said = check(top, crate)
             if proved:
                 continue
-            what, by_case = first_refusal(top, crate, said)
-            if not by_case and not mutation.law:
-                return f"DOES NOT READ  {crate}: {what}", False
-            refusals.append((crate, what))
-    if not refusals:
-        return "STILL PROVED", False
-    word = "refused by law" if mutation.law else "refused"
-    return f"{word}  " + "; ".join(f"{crate}: {what}" for crate, what in refusals), refusals[0][0] in expected
+            fields, other = refusals(top, crate, said)
+            if other and not fields or other and mutation.by and other.startswith("specs/") and "depend" not in other:
+                return f"DOES NOT READ  {other}", False
+            if not fields:
+                return f"DOES NOT READ  {said.strip().splitlines()[-1]}", False
+            if mutation.law:
+                return f"refused by law  {crate}: " + ", ".join(fields), True
+            shown = "; ".join(f"{function}, {field}" for function, field in list(fields.items())[:3])
+            more = f"; {len(fields) - 3} more" if len(fields) > 3 else ""
+            return f"refused  {shown}{more}", any(function.split("::")[0] in mutation.by for function in fields)
+    return "STILL PROVED", False
 
 
 def wanted(mutation, names):
@@ -283,7 +353,6 @@ def main():
     parser = argparse.ArgumentParser(usage=__doc__.split("\n\n")[1][7:], add_help=True)
     parser.add_argument("-l", "--list", default=os.path.join(HERE, "mutations.txt"))
     parser.add_argument("-j", "--jobs", type=int, default=1)
-    parser.add_argument("-a", "--all", action="store_true")
     parser.add_argument("-k", "--keep", action="store_true")
     parser.add_argument("names", nargs="*")
     arguments = parser.parse_args()
@@ -293,18 +362,14 @@ def main():
     if not chosen:
         sys.exit("no mutation has such a name")
     room = tempfile.mkdtemp(prefix="mutate.")
-    bare_room, whole_room = os.path.join(room, "bare"), os.path.join(room, "whole")
+    rules, rules_room, whole_room = None, os.path.join(room, "rules"), os.path.join(room, "whole")
     try:
         if any(mutation.by for mutation in chosen):
-            changed = set().union(*(mutation.crates() for mutation in mutations if mutation.by))
-            copy(below(crates, cases), bare_room)
-            for name in below(crates, cases) - set(cases):
-                if below(crates, [name]) & changed:
-                    strip(os.path.join(bare_room, "crates", name))
-            for crate in cases:
-                proved, said = check(bare_room, crate)
-                if not proved:
-                    sys.exit(f"{said}\n{crate} is not proved over the bare definitions")
+            rules = Rules(crates, cases)
+            rules.write(rules_room)
+            proved, said = check(rules_room, "rules")
+            if not proved:
+                sys.exit(f"{said}\nthe cases are not proved over the definitions")
         laws = {crate for mutation in chosen for crate in mutation.law}
         if laws:
             copy(below(crates, laws), whole_room)
@@ -313,13 +378,13 @@ def main():
                 if not proved:
                     sys.exit(f"{said}\n{crate} is not proved")
         print(f"{len(chosen)} mutations", flush=True)
+        bad = 0
         with ThreadPoolExecutor(arguments.jobs) as pool:
-            jobs = [pool.submit(attempt, mutation, cases, crates, bare_room, whole_room, arguments.all) for mutation in chosen]
-            bad = 0
+            jobs = [pool.submit(attempt, mutation, crates, rules, rules_room, whole_room) for mutation in chosen]
             for mutation, job in zip(chosen, jobs):
                 line, good = job.result()
                 bad += not good
-                print(f"{mutation.name:32} {line}", flush=True)
+                print(f"{mutation.name:36} {line}{'' if good else '   <<'}", flush=True)
         print(f"{len(chosen) - bad} refused as the list has it, {bad} not")
         return bool(bad)
     finally:
