@@ -29,6 +29,10 @@ refused_of q = record { question = q; answer = Err 7 }
 abbrev pub low : Place
 low = record { level = level.Tree 0; block = 2 }
 
+-- that number on level 1, where it does not lie
+abbrev pub high : Place
+high = record { level = level.Tree 1; block = 2 }
+
 abbrev pub right_low : List ℕ
 right_low = 7 ∷ replicate 127 0
 
@@ -78,6 +82,7 @@ pub record BlameCases : Type 0 where
   pub refused_to_blame : IsToBlame {R = ℕ} card_of_129 (refused_of (tree_of 128 2) ∷ []) low
   pub right_not_to_blame : IsToBlame {R = ℕ} card_of_129 (given (tree_of 128 2) right_low ∷ []) low → ⊥
   pub another_not_to_blame : IsToBlame {R = ℕ} card_of_129 (given (tree_of 128 1) wrong_low ∷ []) low → ⊥
+  pub other_level_not_to_blame : IsToBlame {R = ℕ} card_of_129 (given (tree_of 128 2) wrong_low ∷ []) high → ⊥
   pub other_area_not_to_blame : IsToBlame {R = ℕ} card_of_129 (given (data_of 1 2) wrong_low ∷ []) low → ⊥
   pub none_to_blame : IsToBlame {R = ℕ} card_of_129 [] low → ⊥
   -- a reply names a block where it is refused by 10 or 11, or holds that, and not otherwise

@@ -1,9 +1,9 @@
-use Rattle.std.proofs.Common.{◌≡◌, ◌⊎◌, ℕ, [], ◌∷◌, length, take, slice_index, Ok, Result, IsSome, refl, sym, ap, ◌∙◌, inl, inr}
+use Rattle.std.proofs.Common.{◌≡◌, ◌⊎◌, ℕ, ◌<◌, [], ◌∷◌, length, take, slice_index, Ok, Result, IsSome, refl, sym, ap, ◌∙◌, inl, inr, arith}
 use Rattle.tree.specs.Shape.{levels_from, levels_of, width, blocks_from}
 use Rattle.tree.specs.Tree.{node, level, lowest, tree, root}
 use Rattle.layers.specs.Path.{given}
 use Rattle.layers.specs.Publisher.{Twin, Differs, Honest, right_block}
-use Rattle.layers.specs.Fault.{data_place}
+use Rattle.layers.specs.Fault.{Lies, data_place}
 use Rattle.layers.specs.declared.fault.StorageFault.{StorageFault}
 use Rattle.volume.specs.Words.{sums_to_zero}
 use Rattle.volume.specs.Start.{start_of, start}
@@ -16,7 +16,7 @@ use Rattle.calls.specs.Calls.{Given, started, Reply, begin_rules, open_rules}
 use Rattle.calls.specs.Image.{named}
 use Rattle.calls.specs.Law.{IsToBlame}
 use Rattle.mount_cases.specs.Cards.{data_of, tree_of, card_of_129}
-use Rattle.mount_cases.specs.Blames.{refused_of, low, right_low, twin_of_low, wrong_low, begin_with}
+use Rattle.mount_cases.specs.Blames.{refused_of, low, high, right_low, twin_of_low, wrong_low, begin_with}
 use Rattle.mount_cases.proofs.Plain.{some_is, none_is, ok_is, err_is, not_err, five_is_not_seven, two_is_not_one, not_96, false_is_not_true}
 use Rattle.mount_cases.proofs.blames_stand.Goals as goal
 
@@ -63,15 +63,22 @@ data_differs : Differs {R = ℕ} card_of_129 (given (data_of 1 128) (5 ∷ []))
 unfolding levels_from levels_of width blocks_from node level lowest tree root right_block
 data_differs = record { given = 5 ∷ []; right = 7 ∷ []; answered = refl; published = refl; unlike = five_is_not_seven }
 
+low_lies : Lies card_of_129.shape low
+unfolding levels_from levels_of width blocks_from
+low_lies = (omega arith, omega arith, omega arith)
+
+data_lies : Lies card_of_129.shape (data_place 128)
+data_lies = omega arith
+
 tree_blamed : IsToBlame {R = ℕ} card_of_129 (given (tree_of 128 2) wrong_low ∷ []) low
-tree_blamed = inl ((refl, refl), inr wrong_differs)
+tree_blamed = inl ((refl, refl, low_lies), inr wrong_differs)
 
 data_blamed : IsToBlame {R = ℕ} card_of_129 (given (tree_of 128 2) right_low ∷ given (data_of 1 128) (5 ∷ []) ∷ []) (data_place 128)
-data_blamed = inr (inl ((refl, refl), inr data_differs))
+data_blamed = inr (inl ((refl, refl, data_lies), inr data_differs))
 
 refusal_blamed : IsToBlame {R = ℕ} card_of_129 (refused_of (tree_of 128 2) ∷ []) low
 unfolding levels_from levels_of width blocks_from node level lowest tree root right_block
-refusal_blamed = inl ((refl, refl), inl (7, (refl, refl)))
+refusal_blamed = inl ((refl, refl, low_lies), inl (7, (refl, refl)))
 
 right_differs_not : Differs {R = ℕ} card_of_129 (given (tree_of 128 2) right_low) → ⊥
 unfolding levels_from levels_of width blocks_from node level lowest tree root right_block
@@ -85,6 +92,10 @@ another_unblamed b = elim b [ inl h ↦ let number : ◌≡◌ {A = ℕ} 1 2 = h
 
 area_unblamed : IsToBlame {R = ℕ} card_of_129 (given (data_of 1 2) wrong_low ∷ []) low → ⊥
 area_unblamed b = elim b [ inl h ↦ let area = h.0.0 in cc | inr none ↦ none ]
+
+level_unblamed : IsToBlame {R = ℕ} card_of_129 (given (tree_of 128 2) wrong_low ∷ []) high → ⊥
+unfolding levels_from levels_of width blocks_from
+level_unblamed b = elim b [ inl h ↦ let last : 2 < 1 = h.0.2.2 in absurd (omega arith) | inr none ↦ none ]
 
 -- the size that an answer to begin tells
 size_of : Result Given (Refusal (StorageFault ℕ)) → ℕ
@@ -118,6 +129,7 @@ returns c = record {
   refused_to_blame = refusal_blamed;
   right_not_to_blame = right_unblamed;
   another_not_to_blame = another_unblamed;
+  other_level_not_to_blame = level_unblamed;
   other_area_not_to_blame = area_unblamed;
   none_to_blame = λ none. none;
   names_wrong = refl;
