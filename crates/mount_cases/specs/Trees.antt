@@ -6,7 +6,7 @@ use Rattle.tree.specs.Path.{held, above}
 use Rattle.images.specs.Shapes.{usual}
 use Rattle.mount_cases.specs.Cards.{card_of_129}
 
--- three data blocks of two bytes under tree blocks of two slots of two bytes, with a digest of one byte, the second
+-- three data blocks of two bytes under tree blocks of two slots of two bytes, with a digest of one byte, the first
 abbrev pub narrow : Shape
 narrow = record { data_block = 2; hash_block = 4; blocks = 3; slot = 2 }
 
