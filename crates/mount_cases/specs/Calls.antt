@@ -6,7 +6,7 @@ use Rattle.calls.specs.declared.refusal.MountRule.{MountRule}
 use Rattle.calls.specs.declared.refusal.MountRule.TheVariants.{Label, Handle, Length, Held, NotBegun}
 use Rattle.calls.specs.declared.refusal.Refusal.TheVariants.{Mount}
 use Rattle.calls.specs.Calls.{begin, open_file, read, whole, list, close, Reply, State, started, opened, count, all, listed, closed, fresh}
-use Rattle.calls.specs.Mount.{made, mount}
+use Rattle.calls.specs.Mount.{image_length, made, mount}
 use Rattle.device.specs.Program.{asked, result}
 use Rattle.images.specs.Reading.{reply, begun}
 use Rattle.images.specs.Volumes.{v, file_a, one}
@@ -76,3 +76,5 @@ pub record CallCases : Type 0 where
   pub label_begin : (result (giving 512 v) (mount (made None) begin)).0.answer ≡ Err (Mount Label)
   pub label_before_begun : (result (giving 512 v) (mount (made None) (close file_a))).0.answer ≡ Err (Mount Label)
   pub label_asks : asked (giving 512 v) (mount (made None) begin) ≡ []
+  -- an image is its data blocks
+  pub image_bytes : image_length (record { data_block = 512; hash_block = 1024; blocks = 3; slot = 32 }) ≡ 1536

@@ -1,12 +1,14 @@
 -- Fetches by blocks: what is asked for, and what bytes are taken of it.
 use Rattle.std.specs.Prelude.{◌≡◌, ℕ, List, [], ◌∷◌, codes, Ok, Err}
+use Rattle.device.specs.declared.question.Question.{Question}
 use Rattle.device.specs.Answer.{Answer}
 use Rattle.device.specs.Program.{asked, result}
-use Rattle.volume.specs.Fetches.{fetch_blocks}
-use Rattle.calls.specs.Calls.{begin, read, list}
+use Rattle.volume.specs.Fetches.{fetch_blocks, by_blocks}
+use Rattle.calls.specs.Calls.{Call, begin, open_file, read, list, close, call_rules}
 use Rattle.calls.specs.Mount.{mount}
+use Rattle.images.specs.Reading.{begun}
 use Rattle.images.specs.Volumes.{v, file_a}
-use Rattle.mount_cases.specs.Cards.{data_of, giving, all_but, mount_of_v, begun_mount}
+use Rattle.mount_cases.specs.Cards.{data_of, refusing, giving, all_but, mount_of_v, begun_mount}
 
 -- three blocks of four bytes
 abbrev pub twelve : List ℕ
@@ -14,6 +16,10 @@ twelve = codes "abcdefghijkl"
 
 abbrev pub fetched : ℕ → ℕ → Answer ℕ
 fetched from n = result (giving 4 twelve) (fetch_blocks 4 from n)
+
+-- what a call on V asks for first, once begun, where no cache stands between
+abbrev pub first_of : Call → List Question
+first_of call = asked refusing (by_blocks 512 (call_rules 512 (begun v) call))
 
 pub record FetchCases : Type 0 where
   -- each block that is touched is asked for once, in rising order
@@ -38,3 +44,11 @@ pub record FetchCases : Type 0 where
   pub begin_again_asks : asked (giving 512 v) (mount begun_mount begin) ≡ []
   pub list_asks : asked (giving 512 v) (mount begun_mount (list [] 0 128)) ≡ []
   pub read_asks : asked (giving 512 v) (mount begun_mount (read file_a 0 3)) ≡ []
+  -- without a cache: begin again, a path with a bad component, a wrong length, a read of no bytes and a close fetch nothing
+  pub begin_again_fetches : first_of begin ≡ []
+  pub bad_path_fetches : first_of (open_file (codes "a/.")) ≡ []
+  pub bad_list_fetches : first_of (list (codes "a/") 0 128) ≡ []
+  pub list_length_fetches : first_of (list [] 0 1) ≡ []
+  pub read_nothing_fetches : first_of (read file_a 3 4) ≡ []
+  pub close_fetches : first_of (close file_a) ≡ []
+  pub read_fetches : first_of (read file_a 0 4) ≡ data_of 512 0 ∷ []

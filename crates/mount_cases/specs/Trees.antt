@@ -1,17 +1,20 @@
 -- Trees: their numbers, and their bytes.
-use Rattle.std.specs.Prelude.{◌≡◌, ℕ, List, [], ◌∷◌, ◌++◌, replicate, take, codes}
+use Rattle.std.specs.Prelude.{◌≡◌, ℕ, List, [], ◌∷◌, ◌++◌, replicate, take, drop, codes}
 use Rattle.tree.specs.Shape.{Shape, fanout, levels_of, levels, width, tree_blocks, start}
 use Rattle.tree.specs.Tree.{salted, block_of, in_slot, node, level, tree, root}
 use Rattle.tree.specs.Path.{held, above}
 use Rattle.images.specs.Shapes.{usual}
 use Rattle.mount_cases.specs.Cards.{card_of_129}
 
--- three data blocks of two bytes under tree blocks of two slots of two bytes, with a digest of one byte, the second
+-- three data blocks of two bytes under tree blocks of two slots of two bytes, with a digest of one byte, the first
 abbrev pub narrow : Shape
 narrow = record { data_block = 2; hash_block = 4; blocks = 3; slot = 2 }
 
 abbrev pub first_byte : List ℕ → List ℕ
 first_byte bytes = take 1 bytes
+
+abbrev pub second_byte : List ℕ → List ℕ
+second_byte bytes = take 1 (drop 1 bytes)
 
 abbrev pub six : List ℕ
 six = codes "abcdef"
@@ -48,5 +51,7 @@ pub record TreeCases : Type 0 where
   -- over 129 blocks
   pub tree_of_129 : tree card_of_129.salted card_of_129.shape card_of_129.image ≡ 5 ∷ 7 ∷ replicate 126 0 ++ replicate 128 5 ++ 7 ∷ replicate 127 0
   pub root_of_129 : root card_of_129.salted card_of_129.shape card_of_129.image ≡ 5 ∷ []
+  -- the root is the digest of the block on top, here that of `bd`
+  pub root_of_2 : root second_byte (record { data_block = 2; hash_block = 2; blocks = 2; slot = 1 }) (codes "abcd") ≡ codes "d"
   -- with no level the root is the digest of the data block
   pub root_of_1 : root first_byte (record { data_block = 2; hash_block = 4; blocks = 1; slot = 2 }) (codes "ab") ≡ codes "a"

@@ -53,4 +53,5 @@ returns c = record {
   label_begin = refl;
   label_before_begun = refl;
   label_asks = refl;
+  image_bytes = refl;
 }

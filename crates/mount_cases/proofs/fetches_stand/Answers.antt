@@ -33,4 +33,11 @@ returns c = record {
   begin_again_asks = refl;
   list_asks = refl;
   read_asks = refl;
+  begin_again_fetches = refl;
+  bad_path_fetches = refl;
+  bad_list_fetches = refl;
+  list_length_fetches = refl;
+  read_nothing_fetches = refl;
+  close_fetches = refl;
+  read_fetches = refl;
 }

@@ -32,5 +32,6 @@ returns c = record {
   above_last = refl;
   tree_of_129 = refl;
   root_of_129 = refl;
+  root_of_2 = refl;
   root_of_1 = refl;
 }
