@@ -1,16 +1,15 @@
 -- What a reading is worth, by the law of runs.
-use Rattle.std.proofs.Common.{◌≡◌, ◌⊎◌, ℕ, ◌+◌, ◌-◌, min, ltb, List, [], ◌∷◌, ◌++◌, take, drop, replicate, Option, None, Some, IsSome, IfSome, Result, Ok, Err, refl, sym, ap, ◌∙◌, subst, inl, inr}
+use Rattle.std.proofs.Common.{◌≡◌, ◌⊎◌, ℕ, ◌+◌, ◌-◌, min, ltb, List, [], ◌∷◌, take, drop, replicate, Option, None, Some, IsSome, IfSome, Result, Ok, Err, refl, sym, ap, ◌∙◌, subst, inl, inr}
 use Rattle.std.specs.List.{AllByRecursion}
 use Rattle.std.specs.Option.{is_some}
 use Rattle.std.specs.Result.{IsOk, MatchResult}
 use Rattle.std.specs.Bool.{MatchBool}
 use Rattle.std.proofs.lemmas.Bool.{false≢true}
 use Rattle.device.specs.declared.question.Question.{Question}
-use Rattle.device.specs.Program.{Meaning, Exchange}
+use Rattle.device.specs.Program.{Meaning, Somewhere}
 use Rattle.layers.specs.declared.fault.Place.{Place}
 use Rattle.layers.specs.declared.fault.StorageFault.{StorageFault}
 use Rattle.layers.specs.Publisher.{Publisher}
-use Rattle.layers.proofs.Caching.{still, behind}
 use Rattle.layers.proofs.Judging.{some_of}
 use Rattle.layers.proofs.Tests.{tested}
 use Rattle.volume.specs.declared.types.Start.{Start}
@@ -25,7 +24,7 @@ use Rattle.calls.specs.Mount.{image_length}
 use Rattle.calls.specs.Image.{blamed_if, named, image_reply, image_state}
 use Rattle.calls.specs.Law.{Event, Kept, IsToBlame, Agrees, all_exchanges}
 use Rattle.mount.specs.Mount.{replied, answer_of}
-use Rattle.published.specs.Reading.{Ends, IsReading, image_opens, IsPartOf, IsOfImage, IsWorth, twin, fault, image}
+use Rattle.published.specs.Reading.{Ends, IsReading, image_opens, IsPartOf, IsOfImage, IsRefusedFor, IsWorth, twin, fault, image}
 use Rattle.published.proofs.Twins.{twin_or_none}
 use Rattle.published.proofs.Images.{on_value, starts, opens_at, begun_at, begin_is, open_is, opens_after, opens_not, reads_past, reads_bytes}
 
@@ -141,18 +140,11 @@ module _ (R : Type 0) (p : Publisher) (path : List ℕ) (from n : ℕ) where
   Worth answer buffer xs = IsWorth p path from n answer buffer xs
 
   -- a storage fault of one of the calls
-  by_fault : (xs : List (Event R)) (x : Event R) → ((place : Place) → IsToBlame p x.exchanges place → IsToBlame p (all_exchanges xs) place) → (refusal : Refusal F) → x.reply.answer ≡ Err refusal → (answer : Result ℕ (Refusal F)) (buffer : List ℕ)
-      → answer ≡ Err refusal → buffer ≡ replicate n 0 → IsSome (named x.reply.answer) → Blamed x → Worth answer buffer xs
-  by_fault xs x more refusal is answer buffer refused zeros some blamed =
+  by_fault : (xs : List (Event R)) (x : Event R) → ((refusal : Refusal F) (place : Place) → IsRefusedFor p refusal place x → Somewhere (IsRefusedFor p refusal place) xs) → (refusal : Refusal F) → x.reply.answer ≡ Err refusal → (answer : Result ℕ (Refusal F))
+      (buffer : List ℕ) → answer ≡ Err refusal → buffer ≡ replicate n 0 → IsSome (named x.reply.answer) → Blamed x → Worth answer buffer xs
+  by_fault xs x there refusal is answer buffer refused zeros some blamed =
       let found = blames x refusal is some blamed in
-      fault refusal found.0 refused zeros found.1 (more found.0 found.2)
-
-  -- blame in some of the exchanges
-  more_after : (place : Place) (xs ys : List (Exchange R)) → IsToBlame p xs place → IsToBlame p (xs ++ ys) place
-  more_after place xs ys here = still _ xs ys here
-
-  more_before : (place : Place) (xs ys : List (Exchange R)) → IsToBlame p ys place → IsToBlame p (xs ++ ys) place
-  more_before place xs ys here = behind _ xs ys here
+      fault refusal found.0 refused zeros found.1 (there refusal found.0 (is, found.2))
 
   abbrev begins : Start → Result Accepted (Refusal F)
   begins at = Ok (record { given = started at; buffer = []; state = begun_at F p path at 0 })
@@ -163,7 +155,7 @@ module _ (R : Type 0) (p : Publisher) (path : List ℕ) (from n : ℕ) where
   -- begin alone
   by_begin : (x : Event R) → x.call ≡ begin → Right fresh x → Blamed x → (answer : Result ℕ (Refusal F)) (buffer : List ℕ) → Ends n x answer buffer → Worth answer buffer (x ∷ [])
   by_begin x called (inl some) blamed answer buffer (refusal, is, refused, zeros) =
-      by_fault (x ∷ []) x (λ place here. more_after place x.exchanges [] here) refusal is answer buffer refused zeros some blamed
+      by_fault (x ∷ []) x (λ e place here. inl here) refusal is answer buffer refused zeros some blamed
   by_begin x called (inr same) blamed answer buffer (refusal, is, refused, zeros) =
       image (refused_is refusal answer buffer (begin_refused x refusal is (starts F p path) refl (reply_after fresh x same begin called (on_value (starts F p path) begins) (begin_is F p path))) refused zeros)
 
@@ -193,7 +185,7 @@ module _ (R : Type 0) (p : Publisher) (path : List ℕ) (from n : ℕ) where
   by_open : (x y : Event R) → x.call ≡ begin → IsOk x.reply.answer → Right fresh x → y.call ≡ open_file path → Right (image_state p fresh x.call x.reply) y → Blamed y → (answer : Result ℕ (Refusal F)) (buffer : List ℕ) → Ends n y answer buffer
       → Worth answer buffer (x ∷ y ∷ [])
   by_open x y called ok right opening (inl some) blamed answer buffer (refusal, is, refused, zeros) =
-      by_fault (x ∷ y ∷ []) y (λ place here. more_before place x.exchanges (y.exchanges ++ []) (more_after place y.exchanges [] here)) refusal is answer buffer refused zeros some blamed
+      by_fault (x ∷ y ∷ []) y (λ e place here. inr (inl here)) refusal is answer buffer refused zeros some blamed
   by_open x y called ok right opening (inr same) blamed answer buffer (refusal, is, refused, zeros) =
       let b = begun_of x called ok right in
       let here : y.reply ≡ image_reply p (begun_at F p path b.at 0) y.call = same ∙ ap (λ s. image_reply p s y.call) b.state in
@@ -213,8 +205,7 @@ module _ (R : Type 0) (p : Publisher) (path : List ℕ) (from n : ℕ) where
       let some_answer : IsSome (named (answer_of count answer)) = subst (λ (r : Reply F). IsSome (named r.answer)) replies some in
       let bad = err_of answer some_answer in
       let is : z.reply.answer ≡ Err bad.0 = ap (λ (r : Reply F). r.answer) replies ∙ ap (answer_of count) bad.1 in
-      by_fault (x ∷ y ∷ z ∷ w ∷ []) z
-      (λ place here. more_before place x.exchanges (y.exchanges ++ (z.exchanges ++ (w.exchanges ++ []))) (more_before place y.exchanges (z.exchanges ++ (w.exchanges ++ [])) (more_after place z.exchanges (w.exchanges ++ []) here)))
+      by_fault (x ∷ y ∷ z ∷ w ∷ []) z (λ e place here. inr (inr (inl here)))
       bad.0 is answer buffer bad.1 (zeros bad.0 bad.1) some blamed
   by_read x y z w called ok right file opening gave right_y answer buffer reading replies (inr same) blamed zeros =
       let b = begun_of x called ok right in

@@ -51,11 +51,15 @@ abbrev pub IsOfImage : {F : Type 0} → Publisher → List ℕ → ℕ → ℕ �
 IsOfImage {F = F} p path from n answer buffer =
     MatchResult (image_opens F p path) (λ file. IsPartOf p.image file from n answer buffer) (λ refusal. (answer ≡ Err refusal) × (buffer ≡ replicate n 0))
 
--- one of three: a twin was given; a storage fault that names a block, which was refused or is not the publisher's; or exactly
--- what the image gives
+-- a call was refused for this reason, and this block is to blame in its exchanges
+abbrev pub IsRefusedFor : {R : Type 0} → Publisher → Refusal (StorageFault R) → Place → Event R → Type 0
+IsRefusedFor p refusal place x = (x.reply.answer ≡ Err refusal) × IsToBlame p x.exchanges place
+
+-- one of three: a twin was given; a storage fault that names a block, which was refused or is not the publisher's in the call that
+-- was refused so; or exactly what the image gives
 pub data IsWorth {R : Type 0} (p : Publisher) (path : List ℕ) (from n : ℕ) (answer : Result ℕ (Refusal (StorageFault R))) (buffer : List ℕ) (xs : List (Event R)) : Type 0 where
   twin : Somewhere (Twin p) (all_exchanges xs) → IsWorth p path from n answer buffer xs
-  fault : (refusal : Refusal (StorageFault R)) (place : Place) → answer ≡ Err refusal → buffer ≡ replicate n 0 → blamed_if (holds refusal) ≡ Some place → IsToBlame p (all_exchanges xs) place → IsWorth p path from n answer buffer xs
+  fault : (refusal : Refusal (StorageFault R)) (place : Place) → answer ≡ Err refusal → buffer ≡ replicate n 0 → blamed_if (holds refusal) ≡ Some place → Somewhere (IsRefusedFor p refusal place) xs → IsWorth p path from n answer buffer xs
   image : IsOfImage p path from n answer buffer → IsWorth p path from n answer buffer xs
 
 -- a reading over a device, from one value of it to another
