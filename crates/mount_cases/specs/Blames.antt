@@ -7,6 +7,7 @@ use Rattle.layers.specs.declared.fault.Place.{Place}
 use Rattle.layers.specs.declared.fault.StorageFault.{StorageFault}
 use Rattle.layers.specs.declared.fault.StorageFault.TheVariants as storage
 use Rattle.layers.specs.Fault.{data_place}
+use Rattle.layers.specs.Judged.{IsFor}
 use Rattle.layers.specs.Path.{given}
 use Rattle.layers.specs.Publisher.{Twin, Honest, right_block}
 use Rattle.volume.specs.declared.fault.VolumeRule.TheVariants as volume_rule
@@ -84,6 +85,9 @@ pub record BlameCases : Type 0 where
   pub another_not_to_blame : IsToBlame {R = ℕ} card_of_129 (given (tree_of 128 1) wrong_low ∷ []) low → ⊥
   pub other_level_not_to_blame : IsToBlame {R = ℕ} card_of_129 (given (tree_of 128 2) wrong_low ∷ []) high → ⊥
   pub other_area_not_to_blame : IsToBlame {R = ℕ} card_of_129 (given (data_of 1 2) wrong_low ∷ []) low → ⊥
+  -- an exchange is for a block of the data where that has one of this number
+  pub for_the_last : IsFor {R = ℕ} card_of_129.shape (data_place 128) (refused_of (data_of 1 128))
+  pub for_none_behind : IsFor {R = ℕ} card_of_129.shape (data_place 129) (refused_of (data_of 1 129)) → ⊥
   pub none_to_blame : IsToBlame {R = ℕ} card_of_129 [] low → ⊥
   -- a reply names a block where it is refused by 10 or 11, or holds that, and not otherwise
   pub names_wrong : named {R = ℕ} (Err (holding_fault (storage.Mismatch low))) ≡ Some low
