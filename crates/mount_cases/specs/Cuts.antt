@@ -41,17 +41,11 @@ abbrev pub cut_by : StorageFault ℕ → List (Exchange ℕ) → Type 0
 cut_by fault xs = IsCut pair 1 1 pair.root fault xs
 
 pub record CutCases : Type 0 where
-  -- a path ends at its data block, which has the digest that is held above it
-  pub path : leads_to (7 ∷ []) (top ∷ last ∷ [])
+  -- no path: without its data, with more behind it, with data of another digest, and with data that were refused
   pub without_data : leads_to (7 ∷ []) (top ∷ []) → ⊥
   pub goes_on : leads_to (7 ∷ []) (top ∷ last ∷ last ∷ []) → ⊥
   pub wrong_data : leads_to (8 ∷ []) (top ∷ wrong_last ∷ []) → ⊥
   pub refused_data : leads_to (7 ∷ []) (top ∷ refused_last ∷ []) → ⊥
-  -- one that is cut ends at a block that was wrong, or refused
-  pub cut_at_data : cut_by (Mismatch (data_place 1)) (top ∷ wrong_last ∷ [])
-  pub cut_at_refused : cut_by (Refused (data_place 1) 7) (top ∷ refused_last ∷ [])
-  pub cut_at_top : cut_by (Mismatch top_place) (wrong_top ∷ [])
-  pub cut_at_refused_top : cut_by (Refused top_place 7) (refused_top ∷ [])
   -- no cut: nothing, the first of a path and all of it
   pub nothing : cut_by (Mismatch top_place) [] → ⊥
   pub first_alone : cut_by (Mismatch top_place) (top ∷ []) → ⊥
@@ -61,6 +55,7 @@ pub record CutCases : Type 0 where
   pub on_behind_wrong : cut_by (Mismatch top_place) (wrong_top ∷ last ∷ []) → ⊥
   pub on_behind_data : cut_by (Refused (data_place 1) 7) (top ∷ refused_last ∷ last ∷ []) → ⊥
   pub past_a_wrong_one : cut_by (Refused (data_place 1) 7) (wrong_top ∷ refused_last ∷ []) → ⊥
+  pub past_a_refused_one : cut_by (Refused (data_place 1) 7) (refused_top ∷ refused_last ∷ []) → ⊥
   -- nor questions for other blocks, or another fault
   pub other_data : cut_by (Refused (data_place 1) 7) (top ∷ refused_of (data_of 1 0) ∷ []) → ⊥
   pub other_tree : cut_by (Refused top_place 7) (refused_of (tree_of 2 1) ∷ []) → ⊥
@@ -69,3 +64,9 @@ pub record CutCases : Type 0 where
   -- an answer is the bytes that the path leads to, or the fault that cuts it
   pub other_bytes : Stops pair 1 (Ok (8 ∷ [])) (top ∷ last ∷ []) → ⊥
   pub other_fault : Stops pair 1 (Err (Refused top_place 8)) (refused_top ∷ []) → ⊥
+  -- and what is so: a path that ends at its data, and such that are cut at a block that was wrong or refused
+  pub path : leads_to (7 ∷ []) (top ∷ last ∷ [])
+  pub cut_at_data : cut_by (Mismatch (data_place 1)) (top ∷ wrong_last ∷ [])
+  pub cut_at_refused : cut_by (Refused (data_place 1) 7) (top ∷ refused_last ∷ [])
+  pub cut_at_top : cut_by (Mismatch top_place) (wrong_top ∷ [])
+  pub cut_at_refused_top : cut_by (Refused top_place 7) (refused_top ∷ [])

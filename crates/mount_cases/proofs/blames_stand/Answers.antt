@@ -3,9 +3,7 @@ use Rattle.device.specs.declared.question.Area.{Area}
 use Rattle.device.specs.declared.question.Area.TheVariants as area
 use Rattle.tree.specs.Shape.{levels_from, levels_of, width, blocks_from}
 use Rattle.tree.specs.Tree.{node, level, lowest, tree, root}
-use Rattle.layers.specs.Path.{given}
-use Rattle.layers.specs.Publisher.{Twin, Differs, Honest, right_block}
-use Rattle.layers.specs.Fault.{Lies, data_place}
+use Rattle.layers.specs.Publisher.{right_block}
 use Rattle.layers.specs.declared.fault.StorageFault.{StorageFault}
 use Rattle.volume.specs.Words.{sums_to_zero}
 use Rattle.volume.specs.Start.{start_of, start}
@@ -16,9 +14,7 @@ use Rattle.volume.specs.Paths.{enter_all, file_at, open_path, list_path}
 use Rattle.calls.specs.declared.refusal.Refusal.{Refusal}
 use Rattle.calls.specs.Calls.{Given, started, Reply, begin_rules, open_rules}
 use Rattle.calls.specs.Image.{named}
-use Rattle.calls.specs.Law.{IsToBlame}
-use Rattle.mount_cases.specs.Cards.{data_of, tree_of, card_of_129}
-use Rattle.mount_cases.specs.Blames.{refused_of, low, high, right_low, twin_of_low, wrong_low, begin_with}
+use Rattle.mount_cases.specs.Blames.{right_low, twin_of_low, wrong_low, begin_with}
 use Rattle.mount_cases.proofs.Plain.{some_is, none_is, ok_is, err_is, not_err, five_is_not_seven, two_is_not_one, not_96, false_is_not_true}
 use Rattle.mount_cases.proofs.blames_stand.Goals as goal
 

@@ -1,12 +1,12 @@
-use Rattle.std.proofs.Common.{◌≡◌, ℕ, List, [], ◌∷◌, take, Ok, Err, refl, sym, ap, ◌∙◌, inl, inr}
+use Rattle.std.proofs.Common.{◌≡◌, ℕ, List, [], ◌∷◌, take, refl, sym, ap, ◌∙◌, inl, inr}
 use Rattle.tree.specs.Shape.{levels_from, levels_of, width, blocks_from}
 use Rattle.tree.specs.Path.{held, Leads}
 use Rattle.layers.specs.declared.fault.StorageFault.{StorageFault}
 use Rattle.layers.specs.declared.fault.StorageFault.TheVariants.{Refused, Mismatch}
 use Rattle.layers.specs.Fault.{data_place}
-use Rattle.layers.specs.Path.{GivenDown, given}
-use Rattle.mount_cases.specs.Cards.{data_of, tree_of, pair}
-use Rattle.mount_cases.specs.Cuts.{top, wrong_top, refused_top, last, wrong_last, refused_last, top_place}
+use Rattle.layers.specs.Path.{GivenDown}
+use Rattle.mount_cases.specs.Cards.{pair}
+use Rattle.mount_cases.specs.Cuts.{top, last, wrong_last, top_place}
 use Rattle.mount_cases.proofs.Plain.{ok_is, err_is, heads, tails, more_than_none, six_is_not_five, eight_is_not_seven, one_is_not_0}
 use Rattle.mount_cases.proofs.Down.{down_cut}
 use Rattle.mount_cases.proofs.cuts_stand.Goals as goal
@@ -46,15 +46,10 @@ other_place_is e = let places : data_place 1 ≡ top_place = cc in one_is_not_0 
 pub returns : goal.returns
 unfolding levels_from levels_of width blocks_from
 returns c = record {
-  path = ((5 ∷ 7 ∷ []) ∷ [], (last ∷ [], refl, refl), (refl, refl));
   without_data = λ p. down_without_data p.0 p.1;
   goes_on = λ p. down_on p.0 p.1;
   wrong_data = λ p. down_wrong p.0 p.1 p.2;
   refused_data = λ p. down_cut 1 (7 ∷ []) p.0 p.1;
-  cut_at_data = (refl, inr (5 ∷ 7 ∷ [], refl, refl, (refl, refl, (eight_is_not_seven, refl))));
-  cut_at_refused = (refl, inr (5 ∷ 7 ∷ [], refl, refl, (refl, refl, refl)));
-  cut_at_top = (refl, inl (refl, (six_is_not_five, refl)));
-  cut_at_refused_top = (refl, inl (refl, refl));
   nothing = λ c. c;
   first_alone = λ c. elim c.1 [ inl h ↦ h.1.0 refl | inr d ↦ d.3 ];
   whole_path = λ c. elim c.1 [ inl h ↦ more_than_none h.0 | inr d ↦ d.3.2.0 (ap (λ b. held pair.shape 1 b 1) (ok_is d.1)) ];
@@ -62,10 +57,16 @@ returns c = record {
   on_behind_wrong = λ c. elim c.1 [ inl h ↦ more_than_none h.0 | inr d ↦ six_is_not_five (ap (take 1) (ok_is d.1) ∙ d.2) ];
   on_behind_data = λ c. elim c.1 [ inl h ↦ more_than_none h.0 | inr d ↦ more_than_none d.3.1 ];
   past_a_wrong_one = λ c. elim c.1 [ inl h ↦ more_than_none h.0 | inr d ↦ six_is_not_five (ap (take 1) (ok_is d.1) ∙ d.2) ];
+  past_a_refused_one = λ c. elim c.1 [ inl h ↦ more_than_none h.0 | inr d ↦ err_is d.1 ];
   other_data = λ c. elim c.1 [ inl h ↦ more_than_none h.0 | inr d ↦ one_is_not_0 (sym (ap (λ q. q.block) d.3.0)) ];
   other_tree = λ c. one_is_not_0 (ap (λ q. q.block) c.0);
   other_reason = λ c. elim c.1 [ inl h ↦ other_reason_is h.1 | inr d ↦ err_is d.1 ];
   other_place = λ c. elim c.1 [ inl h ↦ other_place_is h.1.1 | inr d ↦ d.3 ];
   other_bytes = λ s. let p = (s.accepted (8 ∷ [])).0 refl in down_other p.0 p.1;
   other_fault = λ s. let cut = (s.refused (Refused top_place 8)).0 refl in elim cut.1 [ inl h ↦ other_reason_is h.1 | inr d ↦ err_is d.1 ];
+  path = ((5 ∷ 7 ∷ []) ∷ [], (last ∷ [], refl, refl), (refl, refl));
+  cut_at_data = (refl, inr (5 ∷ 7 ∷ [], refl, refl, (refl, refl, (eight_is_not_seven, refl))));
+  cut_at_refused = (refl, inr (5 ∷ 7 ∷ [], refl, refl, (refl, refl, refl)));
+  cut_at_top = (refl, inl (refl, (six_is_not_five, refl)));
+  cut_at_refused_top = (refl, inl (refl, refl));
 }
