@@ -22,12 +22,21 @@ The list is blocks of lines, parted by an empty line; `#` begins a comment. The 
 A case is a theorem by computation, so it needs nothing of the proofs and the code below it. The crates of cases are put into
 one crate, `rules`, with the definitions and types that they reach, and nothing else of the crates below. So a proof or a
 function there that breaks is never taken for a refusal. A law is checked over a copy of its crate and of those below it, and
-there a refusal may also be a proof that no longer fits: what it was has to be looked at, as with the few cases that are
-proved otherwise than by computation (`mount_cases::blames_stand`).
+there a refusal may also be a proof that no longer fits: what it was has to be looked at.
 
-For each mutation a line is printed: its name, and `refused` with crate, function and field of the first cases that fail;
-`STILL PROVED`; or `DOES NOT READ`, where the definitions themselves are refused. The status is 0 if all are refused, and
-by a crate that the list names. It wants `rt` on the path.
+For each mutation a line is printed, its name and one of these:
+
+  refused CRATE::FUNCTION, FIELD    the first cases that fail, by the fields of their records
+  refused by a proof: NAME          no field fails, but a lemma NAME that the cases' proofs use, or the function as a whole.
+                                    Such a line wants a look whether a statement is false, or only its proof no longer fits
+  refused by law CRATE: FUNCTION    the same of a law
+  STILL PROVED
+  DOES NOT READ                     the definitions themselves are refused
+  DOES NOT FIT                      the old text does not stand once in its file
+
+A field that is proved by a term, as a case that something is not so, is refused where the term does not fit; that its
+statement is false is then for whoever writes the mutation to see. The last line counts the refusals by a field, by a
+proof and by a law apart. The status is 0 if all are refused, and by a crate that the list names. It wants `rt` on the path.
 """
 import argparse
 import os
@@ -295,9 +304,26 @@ def check(room, crate):
     return run.returncode == 0, run.stdout
 
 
+def field_at(lines, row):
+    """The field that a line of a proof file gives, if it is one of a record that is given field by field."""
+    start = max((number for number, line in enumerate(lines[:row]) if re.match(r"\w.* = record \{$", line)), default=row)
+    if "}" in lines[start : row + 1]:
+        return None
+    found = [re.match(r"  (\w+) = ", line) for line in lines[start + 1 : row + 1]]
+    return next((match.group(1) for match in reversed(found) if match), None)
+
+
+def lemma_at(lines, row):
+    """The declaration of a proof file that a line belongs to."""
+    found = [re.match(r"(?:pub )?(\w[\w-]*)", line) for line in lines[: row + 1] if not line.startswith(("unfolding", "use "))]
+    return next((match.group(1) for match in reversed(found) if match), "?")
+
+
 def refusals(room, crate, said):
-    """The functions that are refused, each with its first field, and the first error that is no case's."""
-    fields, other = {}, None
+    """The functions that are refused, each with its first field, the lemmas that are, and the first error that is no case's."""
+    fields, lemmas, other = {}, {}, None
+    specs = os.path.join(room, "crates", crate, "specs")
+    cases = {name for file in os.listdir(specs) for name in re.findall(r"^  pub (\w+) :", read(os.path.join(specs, file)), re.M)}
     for line in said.split("\n"):
         found = re.match(r"(?:\./)?(\S+\.(?:antt|rt)):(\d+):(\d+): error:? ?(.*)", line)
         if not found:
@@ -306,12 +332,17 @@ def refusals(room, crate, said):
         if not path.startswith("proofs/"):
             other = other or f"{path}:{row}: {message}"
             continue
-        written = read(os.path.join(room, "crates", crate, path)).split("\n")[int(row) - 1].strip()
+        lines = read(os.path.join(room, "crates", crate, path)).split("\n")
         function = "::".join(path.split("/")[1:-1]) or os.path.basename(path)
-        fields.setdefault(function, written.split(" ")[0])
+        field = field_at(lines, int(row) - 1)
+        if field in cases:
+            fields.setdefault(function, field)
+        else:
+            lemmas.setdefault(function, lemma_at(lines, int(row) - 1))
     for function in re.findall(rf"^fn {crate}::(\S+): not proved", said, re.M):
-        fields.setdefault(function, "?")
-    return fields, other
+        if function not in fields:
+            lemmas.setdefault(function, "returns")
+    return fields, lemmas, other
 
 
 def copy_again(source, room, changed):
@@ -324,7 +355,7 @@ def copy_again(source, room, changed):
 
 
 def attempt(mutation, crates, rules, rules_room, whole_room):
-    """Makes one mutation in a copy, and says what refuses it: a line, and whether that is as the list has it."""
+    """Makes one mutation in a copy, and says what refuses it: a line, how it is counted, and whether that is as the list has it."""
     source = whole_room if mutation.law else rules_room
     with tempfile.TemporaryDirectory(dir=os.path.dirname(source)) as room:
         top = os.path.join(room, "copy")
@@ -333,20 +364,22 @@ def attempt(mutation, crates, rules, rules_room, whole_room):
         try:
             mutation.make(top, None if mutation.law else rules)
         except (ValueError, OSError) as error:
-            return f"DOES NOT FIT   {error}", False
+            return f"DOES NOT FIT   {error}", None, False
         for crate in mutation.law or ["rules"]:
             proved, said = check(top, crate)
             if proved:
                 continue
-            fields, other = refusals(top, crate, said)
-            if other and mutation.by or not fields:
-                return f"DOES NOT READ  {other or said.strip().splitlines()[-1]}", False
+            fields, lemmas, other = refusals(top, crate, said)
+            if other and mutation.by or not fields and not lemmas:
+                return f"DOES NOT READ  {other or said.strip().splitlines()[-1]}", None, False
             if mutation.law:
-                return f"refused by law  {crate}: " + ", ".join(fields), True
-            shown = "; ".join(f"{function}, {field}" for function, field in list(fields.items())[:3])
-            more = f"; {len(fields) - 3} more" if len(fields) > 3 else ""
-            return f"refused  {shown}{more}", any(function.split("::")[0] in mutation.by for function in fields)
-    return "STILL PROVED", False
+                return f"refused by law  {crate}: " + ", ".join(sorted({*fields, *lemmas})), "law", True
+            kind, found = ("field", fields) if fields else ("proof", lemmas)
+            shown = "; ".join(f"{function}, {name}" for function, name in list(found.items())[:3])
+            more = f"; {len(found) - 3} more" if len(found) > 3 else ""
+            told = any(re.split("::|_[A-Z]", function)[0] in mutation.by for function in found)
+            return f"refused{' by a proof:' if kind == 'proof' else ' '} {shown}{more}", kind, told
+    return "STILL PROVED", None, False
 
 
 def wanted(mutation, names):
@@ -382,14 +415,16 @@ def main():
                 if not proved:
                     sys.exit(f"{said}\n{crate} is not proved")
         print(f"{len(chosen)} mutations", flush=True)
-        bad = 0
+        bad, counts = 0, {"field": 0, "proof": 0, "law": 0}
         with ThreadPoolExecutor(arguments.jobs) as pool:
             jobs = [pool.submit(attempt, mutation, crates, rules, rules_room, whole_room) for mutation in chosen]
             for mutation, job in zip(chosen, jobs):
-                line, good = job.result()
+                line, kind, good = job.result()
                 bad += not good
+                if good:
+                    counts[kind] += 1
                 print(f"{mutation.name:36} {line}{'' if good else '   <<'}", flush=True)
-        print(f"{len(chosen) - bad} refused as the list has it, {bad} not")
+        print(f"refused as the list has it: {counts['field']} by a field, {counts['proof']} by a proof, {counts['law']} by a law; not so: {bad}")
         return bool(bad)
     finally:
         if arguments.keep:

@@ -33,9 +33,12 @@ header_named name next info size = next ∷ info ∷ size ∷ checksum (next + i
 abbrev pub header_words : ℕ → ℕ → ℕ → List ℕ
 header_words = header_named 0x61000000
 
--- the header of an empty file, with a name of these words
+-- the header of a file of these many bytes, and of an empty one, with a name of these words
+abbrev pub header_sized : ℕ → List ℕ → List ℕ
+header_sized size name = 2 ∷ 0 ∷ size ∷ checksum (2 + size + sum name) ∷ name
+
 abbrev pub header_long : List ℕ → List ℕ
-header_long name = 2 ∷ 0 ∷ 0 ∷ checksum (2 + sum name) ∷ name
+header_long = header_sized 0
 
 -- a volume in one block: these words from its name on, and behind its end the last ones
 abbrev pub volume_before : List ℕ → List ℕ → List ℕ

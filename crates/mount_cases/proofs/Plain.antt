@@ -28,3 +28,27 @@ not_96 e = absurd (omega arith)
 
 pub false_is_not_true : false ≡ true → ⊥
 false_is_not_true e = cc
+
+pub none_is_some : {A : Type 0} {x : A} → ◌≡◌ {A = Option A} None (Some x) → ⊥
+none_is_some e = cc
+
+pub some_is_none : {A : Type 0} {x : A} → ◌≡◌ {A = Option A} (Some x) None → ⊥
+some_is_none e = cc
+
+pub more_than_none : {A : Type 0} {x : A} {xs : List A} → x ∷ xs ≡ [] → ⊥
+more_than_none e = cc
+
+pub heads : {A : Type 0} {x y : A} {xs ys : List A} → x ∷ xs ≡ y ∷ ys → x ≡ y
+heads e = cc
+
+pub tails : {A : Type 0} {x y : A} {xs ys : List A} → x ∷ xs ≡ y ∷ ys → xs ≡ ys
+tails e = cc
+
+pub six_is_not_five : ◌≡◌ {A = List ℕ} (6 ∷ []) (5 ∷ []) → ⊥
+six_is_not_five e = cc
+
+pub eight_is_not_seven : ◌≡◌ {A = List ℕ} (8 ∷ []) (7 ∷ []) → ⊥
+eight_is_not_seven e = cc
+
+pub one_is_not_0 : ◌≡◌ {A = ℕ} 1 0 → ⊥
+one_is_not_0 e = cc

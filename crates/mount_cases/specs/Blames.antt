@@ -7,6 +7,7 @@ use Rattle.layers.specs.declared.fault.Place.{Place}
 use Rattle.layers.specs.declared.fault.StorageFault.{StorageFault}
 use Rattle.layers.specs.declared.fault.StorageFault.TheVariants as storage
 use Rattle.layers.specs.Fault.{data_place}
+use Rattle.layers.specs.Judged.{IsFor}
 use Rattle.layers.specs.Path.{given}
 use Rattle.layers.specs.Publisher.{Twin, Honest, right_block}
 use Rattle.volume.specs.declared.fault.VolumeRule.TheVariants as volume_rule
@@ -70,20 +71,23 @@ pub record BlameCases : Type 0 where
   pub honest : Honest {R = ℕ} card_of_129 (given (data_of 1 128) (7 ∷ []) ∷ refused_of (data_of 1 129) ∷ given (data_of 2 0) (9 ∷ []) ∷ [])
   pub refused_not_honest : Honest {R = ℕ} card_of_129 (refused_of (tree_of 128 2) ∷ []) → ⊥
   pub wrong_not_honest : Honest {R = ℕ} card_of_129 (given (data_of 1 128) (5 ∷ []) ∷ []) → ⊥
-  -- a twin is wrong, of the right length and the right digest
-  pub twin : Twin {R = ℕ} card_of_129 (given (tree_of 128 2) twin_of_low)
+  -- no twin is a right block, one of another length, and one of another digest; a wrong one of the right length and digest is
   pub right_no_twin : Twin {R = ℕ} card_of_129 (given (data_of 1 128) (7 ∷ [])) → ⊥
   pub longer_no_twin : Twin {R = ℕ} card_of_129 (given (data_of 1 128) (7 ∷ 7 ∷ [])) → ⊥
   pub wrong_no_twin : Twin {R = ℕ} card_of_129 (given (data_of 1 128) (5 ∷ [])) → ⊥
-  -- to blame is a wrong block of the tree, one of the data, and one that was refused; not a right one, nor a block of another
-  -- number or area
-  pub tree_to_blame : IsToBlame {R = ℕ} card_of_129 (given (tree_of 128 2) wrong_low ∷ []) low
-  pub data_to_blame : IsToBlame {R = ℕ} card_of_129 (given (tree_of 128 2) right_low ∷ given (data_of 1 128) (5 ∷ []) ∷ []) (data_place 128)
-  pub refused_to_blame : IsToBlame {R = ℕ} card_of_129 (refused_of (tree_of 128 2) ∷ []) low
+  pub twin : Twin {R = ℕ} card_of_129 (given (tree_of 128 2) twin_of_low)
+  -- not to blame is a right block, nor one of another number, level or area; a wrong block of the tree is, one of the data, and
+  -- one that was refused
   pub right_not_to_blame : IsToBlame {R = ℕ} card_of_129 (given (tree_of 128 2) right_low ∷ []) low → ⊥
   pub another_not_to_blame : IsToBlame {R = ℕ} card_of_129 (given (tree_of 128 1) wrong_low ∷ []) low → ⊥
   pub other_level_not_to_blame : IsToBlame {R = ℕ} card_of_129 (given (tree_of 128 2) wrong_low ∷ []) high → ⊥
   pub other_area_not_to_blame : IsToBlame {R = ℕ} card_of_129 (given (data_of 1 2) wrong_low ∷ []) low → ⊥
+  pub tree_to_blame : IsToBlame {R = ℕ} card_of_129 (given (tree_of 128 2) wrong_low ∷ []) low
+  pub data_to_blame : IsToBlame {R = ℕ} card_of_129 (given (tree_of 128 2) right_low ∷ given (data_of 1 128) (5 ∷ []) ∷ []) (data_place 128)
+  pub refused_to_blame : IsToBlame {R = ℕ} card_of_129 (refused_of (tree_of 128 2) ∷ []) low
+  -- an exchange is for no block behind the last of the data, and for the last
+  pub for_none_behind : IsFor {R = ℕ} card_of_129.shape (data_place 129) (refused_of (data_of 1 129)) → ⊥
+  pub for_the_last : IsFor {R = ℕ} card_of_129.shape (data_place 128) (refused_of (data_of 1 128))
   pub none_to_blame : IsToBlame {R = ℕ} card_of_129 [] low → ⊥
   -- a reply names a block where it is refused by 10 or 11, or holds that, and not otherwise
   pub names_wrong : named {R = ℕ} (Err (holding_fault (storage.Mismatch low))) ≡ Some low

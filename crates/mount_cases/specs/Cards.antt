@@ -4,6 +4,7 @@ use Rattle.device.specs.declared.question.Area.TheVariants as area
 use Rattle.device.specs.declared.question.Question.{Question}
 use Rattle.device.specs.Program.{Meaning, result}
 use Rattle.tree.specs.Tree.{block_of}
+use Rattle.layers.specs.Anchor.{Anchor}
 use Rattle.layers.specs.Publisher.{Publisher, anchor_of}
 use Rattle.calls.specs.Calls.{begin}
 use Rattle.calls.specs.Mount.{Mounted, made, mount}
@@ -40,3 +41,7 @@ begun_mount = (result (giving 512 v) (mount mount_of_v begin)).1
 -- digest of a block is its first byte
 abbrev pub card_of_129 : Publisher
 card_of_129 = record { salted = λ bytes. take 1 bytes; size = 1; shape = record { data_block = 1; hash_block = 128; blocks = 129; slot = 1 }; image = replicate 128 5 ++ 7 ∷ [] }
+
+-- the label of a card of two blocks of one byte, 5 and 7, under one tree block of two slots of one byte
+abbrev pub pair : Anchor
+pair = record { salted = λ bytes. take 1 bytes; size = 1; shape = record { data_block = 1; hash_block = 2; blocks = 2; slot = 1 }; root = 5 ∷ [] }

@@ -2,6 +2,9 @@ pub mod Cards
 pub mod Fetches
 pub mod Places
 pub mod Calls
+pub mod Asks
+pub mod Cuts
+pub mod Rows
 pub mod States
 pub mod Numbers
 pub mod Checks

@@ -2,7 +2,7 @@
 #![tactic(auto)]
 
 ghost use Rattle.volume_cases.specs.Headers.{HeaderCases};
-ghost use Rattle.volume_cases.specs.InUse.{UseCases};
+ghost use Rattle.volume_cases.specs.InUse.{KindCases, UseCases};
 ghost use Rattle.volume_cases.specs.Lists.{ListCases};
 ghost use Rattle.volume_cases.specs.Names.{NameCases};
 ghost use Rattle.volume_cases.specs.Paths.{PathCases};
@@ -30,6 +30,11 @@ pub fn lists_stand()
 // Directories entered, links followed, and files.
 pub fn uses_stand()
     ensures { UseCases }
+{}
+
+// Kinds that are no directory, or no file.
+pub fn kinds_stand()
+    ensures { KindCases }
 {}
 
 // The components of a path, and the place that a fault has in it.

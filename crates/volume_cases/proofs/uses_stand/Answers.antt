@@ -27,6 +27,7 @@ returns c = record {
   listed_info = refl;
   at_the_end = refl;
   past_the_end = refl;
+  past_the_end_by_48 = refl;
   info_before_data = refl;
   link = refl;
   link_outside = refl;
