@@ -4,4 +4,5 @@ pub mod Laws
 pub mod Lines
 pub mod Printed
 pub mod Seen
+pub mod Sentence
 pub mod Values

@@ -1,13 +1,35 @@
 // Why a text is no label.
-use crate::key::Key;
-use thiserror::Error;
+ghost use Rattle.std.specs.Prelude.{Some};
+ghost use Rattle.label_text.specs.Sentence.{fault_text};
 
-#[derive(Clone, Copy, PartialEq, Eq, Debug, Error)]
+use crate::key::Key;
+use std::error::Error;
+use std::fmt;
+
+/// Why a text is no label: the line at fault, by its key.
+#[derive(Clone, Copy, PartialEq, Eq, Debug)]
 pub enum Fault {
-    #[error("no line of the label begins with '{0}'")]
+    /// No line begins with the key.
     Missing(Key),
-    #[error("more than one line of the label begins with '{0}'")]
+    /// More than one line begins with the key.
     Doubled(Key),
-    #[error("the label's line that begins with '{0}' has a malformed value")]
+    /// What stands behind the key is no value of it.
     Malformed(Key),
 }
+
+impl fmt::Display for Fault {
+    ghost output = { λ fault. Some (fault_text fault) };
+
+    fn fmt<W: fmt::Write>(&self, f: &mut fmt::Formatter<W>) -> fmt::Result {
+        match self {
+            Fault::Missing(key) => write!(f, "no line of the label begins with '{key}'"),
+            Fault::Doubled(key) => write!(f, "more than one line of the label begins with '{key}'"),
+            Fault::Malformed(key) => write!(
+                f,
+                "the label's line that begins with '{key}' has a malformed value"
+            ),
+        }
+    }
+}
+
+impl Error for Fault {}

@@ -121,24 +121,12 @@ fn prints_a_label_outside_the_limits(rt: HostRuntime) -> Result<(), Fail> {
 }
 
 #[test]
-fn tells_the_fault(rt: HostRuntime) -> Result<(), Fail> {
-    let heap = rt.alloc();
-    for (fault, want) in [
-        (
-            Fault::Missing(Key::Salt),
-            "no line of the label begins with 'Salt:'",
-        ),
-        (
-            Fault::Doubled(Key::DataBlocks),
-            "more than one line of the label begins with 'Data blocks:'",
-        ),
-        (
-            Fault::Malformed(Key::RootHash),
-            "the label's line that begins with 'Root hash:' has a malformed value",
-        ),
-    ] {
-        assert_eq!(rt; format!(in heap; "{fault}")?.as_str(), want);
-    }
+fn prints_a_fault(rt: HostRuntime) -> Result<(), Fail> {
+    let fault = Fault::Missing(Key::Salt);
+    assert_eq!(rt;
+        format!(in rt.alloc(); "{fault}")?.as_str(),
+        "no line of the label begins with 'Salt:'"
+    );
     Ok(())
 }
 

@@ -1,3 +1,4 @@
 pub mod Files
 pub mod Steps
 pub mod Reading
+pub mod Sentence

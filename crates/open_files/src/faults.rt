@@ -1,4 +1,6 @@
 // What an open tells, and why a call on an open file has no answer.
+ghost use Rattle.open_files.specs.Sentence.{file_fault_text, open_fault_text};
+
 use calls::Refusal;
 use layers::StorageFault;
 use std::fmt;
@@ -21,6 +23,8 @@ pub enum OpenFault<R> {
 }
 
 impl<R: fmt::Display> fmt::Display for OpenFault<R> {
+    ghost output = { λ fault. open_fault_text R.output fault };
+
     fn fmt<W: fmt::Write>(&self, f: &mut fmt::Formatter<W>) -> fmt::Result {
         match self {
             OpenFault::Refused(refusal) => write!(f, "{refusal}"),
@@ -43,6 +47,8 @@ pub enum FileFault<R> {
 }
 
 impl<R: fmt::Display> fmt::Display for FileFault<R> {
+    ghost output = { λ fault. file_fault_text R.output fault };
+
     fn fmt<W: fmt::Write>(&self, f: &mut fmt::Formatter<W>) -> fmt::Result {
         match self {
             FileFault::Refused(refusal) => write!(f, "{refusal}"),

@@ -5,6 +5,7 @@ ghost use Rattle.reader.specs.Calls.{extent_of};
 ghost use Rattle.calls.specs.Calls.{list, listed};
 ghost use Rattle.mount.specs.Mount.{Called, device_of, held_of, mounted_of};
 ghost use Rattle.open_files.specs.Reading.{GaveNone, GaveWhole, NotRead, Refuses, WasRead, missing, name_of};
+ghost use Rattle.open_files.specs.Sentence.{contents_fault_text};
 
 use crate::own::give_back;
 use calls::Refusal;
@@ -27,6 +28,8 @@ pub enum ContentsFault<R> {
 }
 
 impl<R: fmt::Display> fmt::Display for ContentsFault<R> {
+    ghost output = { λ fault. contents_fault_text R.output fault };
+
     fn fmt<W: fmt::Write>(&self, f: &mut fmt::Formatter<W>) -> fmt::Result {
         match self {
             ContentsFault::Refused(refusal) => write!(f, "{refusal}"),

@@ -9,7 +9,7 @@ use crate::letters::{executable_letter, letter};
 use crate::name::Name;
 use calls::Refusal;
 use layers::StorageFault;
-use std::{fmt, io};
+use std::fmt;
 use text::Digits;
 use volume::{Entry, Start};
 
@@ -50,13 +50,6 @@ pub enum Reply<'a, R> {
     },
     /// The line asks for no call.
     Unknown(&'a str),
-}
-
-impl<R: BottomRefusal> Reply<'_, R> {
-    /// Prints the line.
-    pub fn print(&self, rt: &impl Print) -> io::Result<()> {
-        println!(rt; "{self}")
-    }
 }
 
 impl<R: BottomRefusal> fmt::Display for Reply<'_, R> {

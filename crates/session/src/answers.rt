@@ -41,8 +41,9 @@ impl<H: Digest, D: Device> Session<'_, H, D>
 where
     D::Refusal: BottomRefusal,
 {
+    // Prints the line of a reply.
     fn say(&self, reply: &Reply<'_, D::Refusal>) -> io::Result<()> {
-        reply.print(self.rt)
+        println!(self.rt; "{reply}")
     }
 
     fn begin(&mut self) -> io::Result<()> {

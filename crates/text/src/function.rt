@@ -1,13 +1,13 @@
 // The digest functions that a program can name.
-ghost use Rattle.std.specs.Prelude.{◌≡◌, ◌-◌, Some, slice_get};
+ghost use Rattle.std.specs.Prelude.{◌≡◌, ◌-◌, Some, codes, slice_get};
 ghost use Rattle.std.specs.Result.{result_ok};
 ghost use Rattle.text.specs.Name.{name_of, named};
 ghost use Rattle.text.specs.Sum.{label_number, size_of};
 
 use digest::{Digest, Sha256, Sha512};
+use std::error::Error;
 use std::fmt;
 use std::str::FromStr;
-use thiserror::Error;
 
 /// A digest function.
 #[derive(Clone, Copy, PartialEq, Eq, Debug)]
@@ -17,9 +17,18 @@ pub enum Function {
 }
 
 /// The text names no function.
-#[derive(Clone, Copy, PartialEq, Eq, Debug, Error)]
-#[error("unknown digest function")]
+#[derive(Clone, Copy, PartialEq, Eq, Debug)]
 pub struct UnknownFunction;
+
+impl fmt::Display for UnknownFunction {
+    ghost output = { λ unknown. Some (codes "unknown digest function") };
+
+    fn fmt<W: fmt::Write>(&self, f: &mut fmt::Formatter<W>) -> fmt::Result {
+        write!(f, "unknown digest function")
+    }
+}
+
+impl Error for UnknownFunction {}
 
 impl Function {
     /// Each function once, in the order of their numbers in a label.

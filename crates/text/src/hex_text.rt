@@ -12,14 +12,15 @@ pub struct HexText<'a> {
 }
 
 impl<'a> HexText<'a> {
-    ghost use Rattle.std.specs.Prelude.{◌≡◌, Some};
+    ghost use Rattle.std.specs.Prelude.{◌≡◌, IfSome, Some};
     ghost use Rattle.std.specs.Option.{option_map};
     ghost use Rattle.text.specs.Hex.{unhex_of};
-    ghost use Rattle.text.specs.HexText.{bytes_told};
+    ghost use Rattle.text.specs.HexText.{bytes_told, text_told};
 
     /// The text, if it is pairs of digits.
     pub fn new(text: &'a [u8]) -> Option<HexText<'a>>
-        ensures { option_map bytes_told result ≡ unhex_of text.now }
+        ensures bytes { option_map bytes_told result ≡ unhex_of text.now }
+        ensures text { IfSome result (λ t. text_told t ≡ text.now) }
     {
         let mut rest = text;
         while let [high, low, tail @ ..] = rest {
@@ -34,7 +35,8 @@ impl<'a> HexText<'a> {
 
     /// The digits.
     pub fn text(&self) -> &'a [u8]
-        ensures { unhex_of result.now ≡ Some (bytes_told self.now) }
+        ensures text { result.now ≡ text_told self.now }
+        ensures bytes { unhex_of result.now ≡ Some (bytes_told self.now) }
     {
         self.text
     }
