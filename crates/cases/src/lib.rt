@@ -5,12 +5,12 @@ ghost use Rattle.cases.specs.MixedCard.{MixedCard};
 ghost use Rattle.cases.specs.SmallCard.{SmallCard};
 ghost use Rattle.cases.specs.Worked.{WorkedList};
 
-// The worked list, by the rules of tree, path check, volume and calls.
+/// The worked list, by the rules of tree, path check, volume and calls.
 pub fn worked_list_stands()
     ensures { WorkedList }
 {}
 
-// Cards that genromfs made, read by the rules.
+/// Cards that genromfs made, read by the rules.
 pub fn mixed_card_stands()
     ensures { MixedCard }
 {}

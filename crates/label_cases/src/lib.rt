@@ -4,12 +4,12 @@
 ghost use Rattle.label_cases.specs.Limits.{LimitCases};
 ghost use Rattle.label_cases.specs.Texts.{TextCases};
 
-// Which numbers a tree may have, and which label is good.
+/// Which numbers a tree may have, and which label is good.
 pub fn limits_stand()
     ensures { LimitCases }
 {}
 
-// The label that a text tells, and the text of a label.
+/// The label that a text tells, and the text of a label.
 pub fn texts_stand()
     ensures { TextCases }
 {}

@@ -14,17 +14,17 @@ ghost use Rattle.mount_cases.specs.Rows.{RowCases};
 ghost use Rattle.mount_cases.specs.States.{StateCases};
 ghost use Rattle.mount_cases.specs.Trees.{TreeCases};
 
-// What a fetch asks for, and the bytes that it takes.
+/// What a fetch asks for, and the bytes that it takes.
 pub fn fetches_stand()
     ensures { FetchCases }
 {}
 
-// The places of what is refused below.
+/// The places of what is refused below.
 pub fn places_stand()
     ensures { PlaceCases }
 {}
 
-// What the calls answer, and what the mount remembers after them.
+/// What the calls answer, and what the mount remembers after them.
 pub fn calls_stand()
     ensures { CallCases }
 {}
@@ -33,12 +33,12 @@ pub fn states_stand()
     ensures { StateCases }
 {}
 
-// The number of each rule.
+/// The number of each rule.
 pub fn numbers_stand()
     ensures { NumberCases }
 {}
 
-// The path check, the cache, and the tree.
+/// The path check, the cache, and the tree.
 pub fn checks_stand()
     ensures { CheckCases }
 {}
@@ -51,12 +51,12 @@ pub fn trees_stand()
     ensures { TreeCases }
 {}
 
-// The publisher's blocks, and what is to blame for a fault.
+/// The publisher's blocks, and what is to blame for a fault.
 pub fn blames_stand()
     ensures { BlameCases }
 {}
 
-// The words of the law: paths and those that are cut, what fetches ask for, and what the cache keeps.
+/// The words of the law: paths and those that are cut, what fetches ask for, and what the cache keeps.
 pub fn cuts_stand()
     ensures { CutCases }
 {}

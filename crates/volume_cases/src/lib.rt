@@ -8,12 +8,12 @@ ghost use Rattle.volume_cases.specs.Names.{NameCases};
 ghost use Rattle.volume_cases.specs.Paths.{PathCases};
 ghost use Rattle.volume_cases.specs.Starts.{StartCases};
 
-// The start of a volume.
+/// The start of a volume.
 pub fn starts_stand()
     ensures { StartCases }
 {}
 
-// Headers, and what their names may be.
+/// Headers, and what their names may be.
 pub fn headers_stand()
     ensures { HeaderCases }
 {}
@@ -22,22 +22,22 @@ pub fn names_stand()
     ensures { NameCases }
 {}
 
-// Lists of headers, and which entry of one is meant.
+/// Lists of headers, and which entry of one is meant.
 pub fn lists_stand()
     ensures { ListCases }
 {}
 
-// Directories entered, links followed, and files.
+/// Directories entered, links followed, and files.
 pub fn uses_stand()
     ensures { UseCases }
 {}
 
-// Kinds that are no directory, or no file.
+/// Kinds that are no directory, or no file.
 pub fn kinds_stand()
     ensures { KindCases }
 {}
 
-// The components of a path, and the place that a fault has in it.
+/// The components of a path, and the place that a fault has in it.
 pub fn paths_stand()
     ensures { PathCases }
 {}
