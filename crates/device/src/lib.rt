@@ -3,6 +3,8 @@
 
 mod device;
 mod question;
+mod wipe;
 
 pub use device::Device;
 pub use question::{Area, Question};
+pub use wipe::wipe;
