@@ -16,7 +16,7 @@ use Rattle.layers.proofs.Walking.{verity-ran}
 use Rattle.verity.specs.Anchored.{kept}
 use Rattle.verity.specs.Layer.{label_of}
 use Rattle.verity.proofs.Labels.{kept-wide}
-use Rattle.verity.proofs.layer.VerityDevice.ask.Goals as goal
+use Rattle.verity.proofs.verity.VerityDevice.ask.Goals as goal
 
 -- the answer of the check, by what the label tells
 of_label : {R : Type 0} (m : Meaning R) (label : Option Anchor) (anchor : Anchor) → label ≡ Some anchor → (q : Question) (x : Answer (StorageFault R)) → x ≡ result m (verity label q) → x ≡ result m (verity (Some anchor) q)
