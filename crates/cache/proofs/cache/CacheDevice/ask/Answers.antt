@@ -4,7 +4,7 @@ use Rattle.device.proofs.Layers.{layer-answer}
 use Rattle.device.proofs.Runs.{returned-is, filled-is}
 use Rattle.layers.specs.Cache.{cache_layer}
 use Rattle.cache.specs.Layer.{below_of, table}
-use Rattle.cache.proofs.layer.CacheDevice.ask.Goals as goal
+use Rattle.cache.proofs.cache.CacheDevice.ask.Goals as goal
 
 pub returns-clause-answer : goal.returns-clause-answer
 returns-clause-answer g c =
