@@ -104,6 +104,10 @@ impl<S: Store> Store for Cache<S> {
         self.below.geometry()
     }
 
+    fn into_bottom(self) -> S::Bottom {
+        self.below.into_bottom()
+    }
+
     ghost steps = { λ c e q moved. ran-stacked S.Bottom.meaning S.Bottom.moves S.rule.step S.label S.memory S.bottom S.meaning S.moves S.steps S.onward cache_layer (table c) (below_of c) q (table e) (below_of e) moved };
 
     ghost lawful = { cache_over-store S.rule S.Keeps S.lawful };

@@ -35,6 +35,10 @@ pub trait Store: Device<Refusal = StorageFault<<Self::Bottom as Device>::Refusal
     fn geometry(&self) -> Option<Geometry>
         ensures { option_map shape_of result ≡ option_map (λ anchor. anchor.shape) (label self.now) };
 
+    /// Gives the device at the bottom back.
+    fn into_bottom(self) -> Self::Bottom
+        ensures { result ≡ bottom self };
+
     // A question takes it from one value to another by exactly what its rule asks, and leaves the label.
     ghost steps: { (s t : Self) (q : Question) → Self.moves s q t → Ran Self.Bottom.meaning Self.Bottom.moves (bottom s) (rule.step (label s) (memory s) q) (Self.meaning s [] q, memory t) (bottom t) × (label t ≡ label s) };
 

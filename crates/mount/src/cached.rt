@@ -28,11 +28,4 @@ impl<H: Digest + Drop, D: Device> Mount<H, D> {
             state: State::new(),
         }
     }
-
-    /// Gives the device back.
-    pub fn into_device(self) -> D
-        ensures { result ≡ device_of self }
-    {
-        self.store.into_below().into_below()
-    }
 }

@@ -20,7 +20,7 @@ impl<S: Store> MountOver<S> {
     ghost use Rattle.std.specs.Prelude.{◌<◌, ◌≤◌, ◌+◌, ◌-◌, cond, [], OnErr, OnOk, IfErr, IfOk, is_ok, nat_lt, length, replicate};
     ghost use Rattle.calls.specs.Calls as calls_of;
     ghost use Rattle.reader.specs.Calls.{extent_of, refused};
-    ghost use Rattle.mount.specs.Mount.{Called, held_of, replied};
+    ghost use Rattle.mount.specs.Mount.{Called, device_of, held_of, replied};
 
     /// Reads the start of the volume. Once it has begun, a mount answers the same again and asks nothing.
     pub fn begin(&mut self) -> Result<Start, Refusal<S::Refusal>>
@@ -114,5 +114,12 @@ impl<S: Store> MountOver<S> {
             return Err((handle, Refusal::Mount(MountRule::Label)));
         };
         self.state.close(handle)
+    }
+
+    /// Gives the device at the bottom back.
+    pub fn into_device(self) -> S::Bottom
+        ensures { result ≡ device_of self }
+    {
+        self.store.into_bottom()
     }
 }

@@ -94,7 +94,7 @@ impl<H: Digest, D: Device> Device for Verity<H, D> {
 }
 
 /// As a store it remembers nothing between two questions.
-impl<H: Digest, D: Device> Store for Verity<H, D> {
+impl<H: Digest + Drop, D: Device> Store for Verity<H, D> {
     type Bottom = D;
 
     ghost Memory = { Unit {0} };
@@ -114,6 +114,10 @@ impl<H: Digest, D: Device> Store for Verity<H, D> {
             Some(anchor) => Some(anchor.geometry),
             None => None,
         }
+    }
+
+    fn into_bottom(self) -> D {
+        self.into_below()
     }
 
     ghost steps = { λ v w q moved. check-steps D.meaning D.moves D.onward (label_of v) (below_of v) q (label_of w) (below_of w) moved };
