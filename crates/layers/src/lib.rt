@@ -7,4 +7,4 @@ mod store;
 
 pub use fault::{Level, Place, StorageFault};
 pub use laws::{answers_judged, cache_stands, honest_accepted, paths_stop};
-pub use store::Store;
+pub use store::{RefusalBelow, Store};

@@ -45,3 +45,6 @@ pub trait Store: Device<Refusal = StorageFault<<Self::Bottom as Device>::Refusal
     // It gives the publisher's blocks or names one to blame, and asks for a block along one path or not at all.
     ghost lawful: { IsStore rule Keeps };
 }
+
+/// Why the device at the bottom of a store refuses a block.
+pub type RefusalBelow<S> = <<S as Store>::Bottom as Device>::Refusal;
