@@ -6,7 +6,7 @@ use Rattle.layers.specs.declared.store.Store as store
 use Rattle.calls.specs.declared.refusal.Refusal.{Refusal}
 use Rattle.calls.specs.Calls.{Call, Given, Reply}
 use Rattle.calls.specs.Mount.{Mounted, mount}
-use Rattle.calls.specs.Law.{Step}
+use Rattle.calls.specs.Law.{Event, Step, Used}
 use Rattle.reader.specs.Calls.{state_of}
 use Rattle.mount.specs.declared.mount.MountOver.{MountOver}
 
@@ -30,7 +30,14 @@ answer_of given (Err refusal) = Err refusal
 abbrev pub replied : {F X : Type 0} → (X → Given) → List ℕ → Result X (Refusal F) → Reply F
 replied given buffer result = record { answer = answer_of given result; buffer = buffer }
 
+-- a call of a mount and its reply, with what its rules ask the device and what that answers: an event of the law of runs
+abbrev pub event_of : {S B R : Type 0} {s : store.Ghosts S B R} {d e : _} → MountOver S B R s d e → Call → Reply (StorageFault R) → Event R
+event_of {s = s} {e = e} m call reply = record { call = call; reply = reply; exchanges = exchanges (e.meaning (device_of m)) (mount s.rule (mounted_of m) call) }
+
 -- a call takes a mount from one value to another, and replies: a step of the law of runs
 abbrev pub Called : {S B R : Type 0} {s : store.Ghosts S B R} {d e : _} → MountOver S B R s d e → Call → Reply (StorageFault R) → MountOver S B R s d e → Type 0
-Called {s = s} {e = e} m call reply n =
-    Step s.rule e.meaning e.moves (mounted_of m) (device_of m) (record { call = call; reply = reply; exchanges = exchanges (e.meaning (device_of m)) (mount s.rule (mounted_of m) call) }) (mounted_of n) (device_of n)
+Called {s = s} {e = e} m call reply n = Step s.rule e.meaning e.moves (mounted_of m) (device_of m) (event_of m call reply) (mounted_of n) (device_of n)
+
+-- calls take a mount from one value to another: a use, of which the law of runs speaks
+abbrev pub UsedTo : {S B R : Type 0} {s : store.Ghosts S B R} {d e : _} → MountOver S B R s d e → List (Event R) → MountOver S B R s d e → Type 0
+UsedTo {s = s} {e = e} m xs n = Used s.rule e.meaning e.moves (mounted_of m) (device_of m) xs (mounted_of n) (device_of n)

@@ -3,7 +3,7 @@ use Rattle.std.proofs.Common.{List, [], ◌∷◌, ◌++◌, refl, ap, subst}
 use Rattle.std.proofs.lemmas.List.{map-append}
 use Rattle.device.specs.declared.device.Device as device
 use Rattle.device.specs.declared.question.Question.{Question}
-use Rattle.device.specs.Program.{Meaning, exchanges}
+use Rattle.device.specs.Program.{Meaning}
 use Rattle.layers.specs.declared.fault.StorageFault.{StorageFault}
 use Rattle.layers.specs.declared.store.Store as store
 use Rattle.layers.specs.Store.{StoreRule}
@@ -11,7 +11,7 @@ use Rattle.calls.specs.Calls.{closed, close}
 use Rattle.calls.specs.Law.{Event, Step, Used}
 use Rattle.calls.specs.Mount as rules
 use Rattle.mount.specs.declared.mount.MountOver.{MountOver}
-use Rattle.mount.specs.Mount.{Called, mounted_of, device_of}
+use Rattle.mount.specs.Mount.{Called, mounted_of, device_of, event_of}
 use Rattle.open_files.specs.declared.files.OpenFile.{OpenFile}
 use Rattle.open_files.specs.Files.{data_of}
 use Rattle.open_files.specs.Steps.{Closed, accepted}
@@ -31,7 +31,7 @@ module _ {S B R : Type 0} {s : store.Ghosts S B R} {d : device.Ghosts S (Storage
   -- one more file is closed
   pub one_more_closed : (files : List OpenFile) (file : OpenFile) (k n : MountOver S B R s d e) → Closed m files k → Called k (close (data_of file)) (accepted closed) n → Closed m (files ++ file ∷ []) n
   one_more_closed files file k n before step =
-      let x : Event R = record { call = close (data_of file); reply = accepted closed; exchanges = exchanges (e.meaning (device_of k)) (rules.mount s.rule (mounted_of k) (close (data_of file))) } in
+      let x = event_of k (close (data_of file)) (accepted closed) in
       record {
         events = before.events ++ x ∷ [];
         used = used_more s.rule e.meaning e.moves before.events x (mounted_of m) (device_of m) (mounted_of k) (device_of k) (mounted_of n) (device_of n) before.used step;

@@ -5,9 +5,9 @@ use Rattle.layers.specs.declared.fault.StorageFault.{StorageFault}
 use Rattle.layers.specs.declared.store.Store as store
 use Rattle.volume.specs.Use.{Extent}
 use Rattle.calls.specs.Calls.{Call, Given, Reply, closed, close, opened, open_file}
-use Rattle.calls.specs.Law.{Event, Used}
+use Rattle.calls.specs.Law.{Event}
 use Rattle.mount.specs.declared.mount.MountOver.{MountOver}
-use Rattle.mount.specs.Mount.{Called, device_of, mounted_of}
+use Rattle.mount.specs.Mount.{Called, UsedTo}
 use Rattle.open_files.specs.declared.files.OpenFile.{OpenFile}
 use Rattle.open_files.specs.declared.files.OpenFiles.{OpenFiles}
 use Rattle.open_files.specs.declared.faults.Opened.{Opened}
@@ -53,6 +53,6 @@ AsksFor o number call given buffer (Err file_fault.NotOpen) n = NoneOpen o numbe
 -- a use of a mount that closes these files, each of them accepted, and nothing else
 pub record Closed {S B R : Type 0} {s : store.Ghosts S B R} {d : device.Ghosts S (StorageFault R)} {e : device.Ghosts B R} (m : MountOver S B R s d e) (files : List OpenFile) (n : MountOver S B R s d e) : Type 0 where
   pub events : List (Event R)
-  pub used : Used s.rule e.meaning e.moves (mounted_of m) (device_of m) events (mounted_of n) (device_of n)
+  pub used : UsedTo m events n
   pub calls : map (λ x. x.call) events ≡ map (λ file. close (data_of file)) files
   pub replies : map (λ x. x.reply) events ≡ map (λ file. accepted closed) files
