@@ -3,6 +3,7 @@ ghost use Rattle.std.specs.Prelude.{◌≡◌, ◌+◌, ◌-◌, ◌^◌, min};
 
 use device::{Area, Device};
 
+/// Answers and asks as the device below.
 #[derive(Drop)]
 pub struct Counting<D: Device> {
     below: D,
@@ -10,6 +11,7 @@ pub struct Counting<D: Device> {
 }
 
 impl<D: Device> Counting<D> {
+    /// No question is counted yet.
     pub fn new(below: D) -> Counting<D>
         ensures below { result.below ≡ below }
         ensures asked { result.asked ≡ 0 }
@@ -17,14 +19,14 @@ impl<D: Device> Counting<D> {
         Counting { below, asked: 0 }
     }
 
-    // How many questions were asked.
+    /// How many questions were asked, refused ones among them; no more than 2^64 − 1 are counted.
     pub fn asked(&self) -> u64
         ensures { result ≡ self.now.asked }
     {
         self.asked
     }
 
-    // Gives the device below back.
+    /// The device below, as it is.
     pub fn into_below(self) -> D
         ensures { result ≡ self.below }
     {
