@@ -24,8 +24,8 @@ impl<'a, H: Digest + Copy> Published<'a, H> {
         source: &Source<'a>,
         tree: &mut [u8],
     ) -> Result<Published<'a, H>, BuildFault>
-        ensures answer { MatchResult result (λ p. answer_of H.LEN source.now.data_block source.now.hash_block source.now.image.now source.now.salt.now tree.old (replicate H.LEN 0) ≡ Ok tt) (λ fault. answer_of H.LEN source.now.data_block source.now.hash_block source.now.image.now source.now.salt.now tree.old (replicate H.LEN 0) ≡ Err fault) }
-        ensures tree { tree.new ≡ tree_after H.LEN H.meaning source.now.data_block source.now.hash_block source.now.image.now source.now.salt.now tree.old (replicate H.LEN 0) }
+        ensures answer { let given = answer_of H.LEN source.now tree.old (replicate H.LEN 0) in MatchResult result (λ p. given ≡ Ok tt) (λ fault. given ≡ Err fault) }
+        ensures tree { tree.new ≡ tree_after H.LEN H.meaning source.now tree.old (replicate H.LEN 0) }
         ensures publisher { IfOk result (λ p. publisher_of p ≡ publisher_over H.LEN H.meaning source.now) }
     {
         let size = digest.output_len();
