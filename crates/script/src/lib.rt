@@ -5,7 +5,6 @@ mod bottom;
 mod call;
 mod code;
 mod counting;
-mod letters;
 mod name;
 mod reply;
 #[cfg(test)]
@@ -15,6 +14,5 @@ pub use bottom::{Bottom, BottomRefusal};
 pub use call::{Call, PathWord};
 pub use code::Code;
 pub use counting::Counting;
-pub use letters::{executable_letter, letter};
 pub use name::Name;
 pub use reply::Reply;
