@@ -3,6 +3,10 @@ use Rattle.std.specs.Prelude.{ℕ, Bool, ◌&&◌, ◌||◌, List, map, ◌==◌
 use Rattle.std.specs.List.{range_with_len}
 use Rattle.tree.specs.Shape.{Shape, start}
 
+-- the longest block
+abbrev pub block_limit : ℕ
+block_limit = 4096
+
 -- a block has 512, 1,024, 2,048 or 4,096 bytes
 abbrev pub is_block_size : ℕ → Bool
 is_block_size n = n == 512 || n == 1024 || n == 2048 || n == 4096
