@@ -1,7 +1,7 @@
 -- A file's data, as the rules take them.
 use Rattle.std.specs.Prelude.{Result, Ok, Err}
 use Rattle.volume.specs.Use.{Extent}
-use Rattle.reader.specs.declared.file.File.{File}
+use Rattle.reader.specs.declared.handle.File.{File}
 
 abbrev pub extent_of : File → Extent
 extent_of file = record { start = file.start; size = file.size }

@@ -1,3 +1,4 @@
+pub mod Fetched
 pub mod Gather
 pub mod Header
 pub mod Sought
