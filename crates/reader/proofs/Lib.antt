@@ -7,5 +7,4 @@ pub mod Seeking
 pub mod Following
 pub mod Entering
 pub mod Pathing
-pub mod CallRuns
 pub mod Fronts

@@ -92,6 +92,16 @@ module _ {S F : Type 0} (meaning : S → Meaning F) (moves : S → Question → 
         let parts = ran-split meaning moves (fetch_blocks d from n) (on fault rest) s r t ran in
         put_by from n fault rest s t r parts.0 parts.1 parts.2 parts.3 (λ bytes inner. ran-put-within (rest bytes) parts.1 t r inner)
 
+  -- what a program comes to, put into something else
+  module _ {E X Y : Type 0} (p : Fetches F E X) (to : X → Y) where
+    abbrev pub turned : Result X E → Result Y E
+    turned (Ok x) = Ok (to x)
+    turned (Err e) = Err e
+
+    pub ran-to : (s t : S) (r : Result X E) → Ran meaning moves s (by_blocks d p) r t → Ran meaning moves s (by_blocks d (after p (λ x. give (to x)))) (turned r) t
+    ran-to s t (Ok x) ran = ran-on (λ y. give (to y)) p s t t x (Ok (to x)) ran (refl, refl)
+    ran-to s t (Err e) ran = ran-off (λ y. give (to y)) p s t e ran
+
 -- what a `?` hands on
 pub err-is : {T E : Type 0} (r : Result T E) (e : E) → IsErr r × IsErrAnd r (λ x. x ≡ e) → r ≡ Err e
 err-is (Ok x) e both = absurd (false≢true both.0)

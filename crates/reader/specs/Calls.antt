@@ -1,5 +1,5 @@
 -- The six calls over a store, as the rules take them.
-use Rattle.std.specs.Prelude.{ℕ, ◌-◌, List, length, Result, Ok, Err}
+use Rattle.std.specs.Prelude.{ℕ, List, length, Result, Ok, Err}
 use Rattle.device.specs.declared.question.Question.{Question}
 use Rattle.device.specs.Program.{Meaning}
 use Rattle.geometry.specs.declared.geometry.Geometry.{Geometry}
@@ -20,10 +20,6 @@ extent_of handle = record { start = handle.start; size = handle.size }
 
 abbrev pub state_of : State → calls.State
 state_of s = record { begun = s.begun; held = s.held }
-
--- one handle less is held
-abbrev pub spent : State → calls.State
-spent s = record { begun = s.begun; held = s.held - 1 }
 
 -- the calls, by their arguments; of a buffer its length counts
 abbrev pub begins : calls.Call
@@ -60,12 +56,9 @@ CallRan meaning moves geometry first state call end last =
     Fetched meaning moves (shape_of geometry).data_block first (calls.call_rules (image_length (shape_of geometry)) (state_of state) call) end last
 
 -- what a call comes to: what it returned, put into what it gives, its buffer, and the state after it
-abbrev pub outcome_in : {F X : Type 0} → (X → calls.Given) → List ℕ → calls.State → Result X (Refusal F) → Result calls.Accepted (Refusal F)
-outcome_in given buffer state (Ok x) = Ok (record { given = given x; buffer = buffer; state = state })
-outcome_in given buffer state (Err refusal) = Err refusal
-
 abbrev pub outcome : {F X : Type 0} → (X → calls.Given) → List ℕ → State → Result X (Refusal F) → Result calls.Accepted (Refusal F)
-outcome given buffer state result = outcome_in given buffer (state_of state) result
+outcome given buffer state (Ok x) = Ok (record { given = given x; buffer = buffer; state = state_of state })
+outcome given buffer state (Err refusal) = Err refusal
 
 -- a refusal, without the handle that comes back with it
 abbrev pub refused : {F X : Type 0} → Result X (Handle × F) → Result X F

@@ -34,7 +34,7 @@ impl State {
     ghost use Rattle.std.specs.Prelude.{◌<◌, ◌≤◌, ◌+◌, ◌-◌, cond, [], OnErr, OnOk, IfErr, IfOk, is_ok, nat_lt, length, replicate};
     ghost use Rattle.volume.specs.Fetches.{settled};
     ghost use Rattle.calls.specs.Calls.{call_rules, count, fresh, listed, started};
-    ghost use Rattle.reader.specs.Calls.{CallRan, begins, closes, gave_all, gave_closed, lists, opened_file, opens, outcome, outcome_in, reads, reads_whole, refused, spent, state_of};
+    ghost use Rattle.reader.specs.Calls.{CallRan, begins, closes, gave_all, gave_closed, lists, opened_file, opens, outcome, reads, reads_whole, refused, state_of};
 
     /// That of a mount that was just made: it has not begun, and no handle is held.
     pub fn new() -> State
@@ -47,6 +47,7 @@ impl State {
     }
 
     /// Reads the start, if that was not done yet.
+    #[tactic(auto, unfolding(calls::specs::Calls::begin_rules))]
     pub fn begin<D: Device>(
         &mut self,
         store: &mut D,
@@ -69,6 +70,7 @@ impl State {
     }
 
     /// Opens the file that a path names.
+    #[tactic(auto, unfolding(calls::specs::Calls::open_rules))]
     pub fn open<D: Device>(
         &mut self,
         store: &mut D,
@@ -96,6 +98,7 @@ impl State {
 
     /// Reads from a place in a file on, as many bytes as there are and the buffer takes, and gives their number. Zeros stand
     /// behind them, and in the whole buffer if it is refused.
+    #[tactic(auto, unfolding(calls::specs::Calls::read_rules))]
     pub fn read<D: Device>(
         &self,
         store: &mut D,
@@ -124,32 +127,8 @@ impl State {
         }
     }
 
-    // All bytes of a file, without the state after them.
-    fn fill<D: Device>(
-        &self,
-        store: &mut D,
-        geometry: &Geometry,
-        handle: &Handle,
-        buf: &mut [u8],
-    ) -> Result<(), Refusal<D::Refusal>>
-        ensures run { CallRan D.meaning D.moves geometry.now store.old self.now (reads_whole handle.now buf.old) (outcome_in gave_all buf.new (spent self.now) result) store.new }
-        ensures zeros { OnErr result (buf.new ≡ replicate (length buf.old) 0) }
-        ensures some { OnOk result (0 < self.now.held) }
-    {
-        wipe(buf);
-        let Some(start) = self.begun else {
-            return Err(Refusal::Mount(MountRule::NotBegun));
-        };
-        if handle.is_outside(&start) || self.held == 0 {
-            return Err(Refusal::Mount(MountRule::Handle));
-        }
-        if buf.len() != handle.size as usize {
-            return Err(Refusal::Mount(MountRule::Length));
-        }
-        read_bytes(store, BlockSize::of(geometry), handle.start, buf)
-    }
-
     /// Reads a whole file into a buffer of its size, and ends its handle. Refused, it leaves zeros and gives the handle back.
+    #[tactic(auto, unfolding(calls::specs::Calls::whole_rules))]
     pub fn whole<D: Device>(
         &mut self,
         store: &mut D,
@@ -164,7 +143,17 @@ impl State {
         ensures held { self.new.held ≡ cond (is_ok result) (self.old.held - 1) self.old.held }
         ensures some { OnOk result (0 < self.old.held) }
     {
-        match self.fill(store, geometry, &handle, buf) {
+        wipe(buf);
+        let Some(start) = self.begun else {
+            return Err((handle, Refusal::Mount(MountRule::NotBegun)));
+        };
+        if handle.is_outside(&start) || self.held == 0 {
+            return Err((handle, Refusal::Mount(MountRule::Handle)));
+        }
+        if buf.len() != handle.size as usize {
+            return Err((handle, Refusal::Mount(MountRule::Length)));
+        }
+        match read_bytes(store, BlockSize::of(geometry), handle.start, buf) {
             Ok(()) => {
                 handle.spend();
                 self.held -= 1;
@@ -176,6 +165,7 @@ impl State {
 
     /// An entry of a directory. Its name goes into the buffer, which has `NAME_SIZE` bytes, with zeros behind it; refused, it
     /// leaves zeros.
+    #[tactic(auto, unfolding(calls::specs::Calls::list_rules))]
     pub fn list<D: Device>(
         &self,
         store: &mut D,
@@ -203,6 +193,7 @@ impl State {
     }
 
     /// Ends a handle; refused, it gives it back. It asks nothing, so that the length of the image does not matter.
+    #[tactic(auto, unfolding(calls::specs::Calls::close_rules))]
     pub fn close<F>(&mut self, handle: Handle) -> Result<(), (Handle, Refusal<F>)>
         ensures rule { (limit : _) → settled (outcome gave_closed [] self.new (refused result)) ≡ call_rules limit (state_of self.old) (closes handle) }
         ensures kept { OnErr result (self.new ≡ self.old) }

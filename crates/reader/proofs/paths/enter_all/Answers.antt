@@ -15,10 +15,10 @@ returns-in_err-header g c =
     let l = c.loop-part in
     let part = part_value c.in-Some.component in
     let fault = c.in_err-header.field-0.0 in
-    let entering = subst (λ p. Entering g.D.Device.meaning g.D.Device.moves a.data_block a.start.now a.store.now (parts a.path.now) l.store (parts_of p) l.list) c.in-Some.is l.invariant in
-    let found = subst (λ n. Ran g.D.Device.meaning g.D.Device.moves l.store (by_blocks a.data_block (find a.start.now part.at (by_name n) l.list)) (Err fault) c.find.new.store) c.name.ensures c.in_err-header.ensures in
-    subst (λ r. Ran g.D.Device.meaning g.D.Device.moves a.store.now (by_blocks a.data_block (enter_all_rules a.start.now (parts a.path.now) a.start.now.root)) r c.find.new.store) (sym (err-is c.from_residual.result fault c.from_residual.ensures))
-    (entering-lost g.D.Device.meaning g.D.Device.moves a.data_block a.start.now a.store.now (parts a.path.now) l.store c.find.new.store part (parts_behind c.in-Some.component) l.list entering fault found)
+    let entering = subst (λ p. Entering g.D.Device.meaning g.D.Device.moves a.romfs.block.bytes a.romfs.start a.store.now (parts a.path.now) l.store (parts_of p) l.list) c.in-Some.is l.invariant in
+    let found = subst (λ n. Ran g.D.Device.meaning g.D.Device.moves l.store (by_blocks a.romfs.block.bytes (find a.romfs.start part.at (by_name n) l.list)) (Err fault) c.find.new.store) c.name.ensures c.in_err-header.ensures in
+    subst (λ r. Ran g.D.Device.meaning g.D.Device.moves a.store.now (by_blocks a.romfs.block.bytes (enter_all_rules a.romfs.start (parts a.path.now) a.romfs.start.root)) r c.find.new.store) (sym (err-is c.from_residual.result fault c.from_residual.ensures))
+    (entering-lost g.D.Device.meaning g.D.Device.moves a.romfs.block.bytes a.romfs.start a.store.now (parts a.path.now) l.store c.find.new.store part (parts_behind c.in-Some.component) l.list entering fault found)
 
 pub returns-in_err-list : goal.returns-in_err-list
 returns-in_err-list g c =
@@ -27,10 +27,10 @@ returns-in_err-list g c =
     let part = part_value c.in-Some.component in
     let fault = c.in_err-list.field-0.0 in
     let h = header_value c.in_ok-header.header in
-    let entering = subst (λ p. Entering g.D.Device.meaning g.D.Device.moves a.data_block a.start.now a.store.now (parts a.path.now) l.store (parts_of p) l.list) c.in-Some.is l.invariant in
-    let found = subst (λ n. Ran g.D.Device.meaning g.D.Device.moves l.store (by_blocks a.data_block (find a.start.now part.at (by_name n) l.list)) (Ok h) c.find.new.store) c.name.ensures c.in_ok-header.ensures in
-    subst (λ r. Ran g.D.Device.meaning g.D.Device.moves a.store.now (by_blocks a.data_block (enter_all_rules a.start.now (parts a.path.now) a.start.now.root)) r c.find.new.store) (sym (err-is c.from_residual-in_err-list.result fault c.from_residual-in_err-list.ensures))
-    (entering-stops g.D.Device.meaning g.D.Device.moves a.data_block a.start.now a.store.now (parts a.path.now) l.store c.find.new.store part (parts_behind c.in-Some.component) l.list entering h found fault c.in_err-list.ensures)
+    let entering = subst (λ p. Entering g.D.Device.meaning g.D.Device.moves a.romfs.block.bytes a.romfs.start a.store.now (parts a.path.now) l.store (parts_of p) l.list) c.in-Some.is l.invariant in
+    let found = subst (λ n. Ran g.D.Device.meaning g.D.Device.moves l.store (by_blocks a.romfs.block.bytes (find a.romfs.start part.at (by_name n) l.list)) (Ok h) c.find.new.store) c.name.ensures c.in_ok-header.ensures in
+    subst (λ r. Ran g.D.Device.meaning g.D.Device.moves a.store.now (by_blocks a.romfs.block.bytes (enter_all_rules a.romfs.start (parts a.path.now) a.romfs.start.root)) r c.find.new.store) (sym (err-is c.from_residual-in_err-list.result fault c.from_residual-in_err-list.ensures))
+    (entering-stops g.D.Device.meaning g.D.Device.moves a.romfs.block.bytes a.romfs.start a.store.now (parts a.path.now) l.store c.find.new.store part (parts_behind c.in-Some.component) l.list entering h found fault c.in_err-list.ensures)
 
 pub loop-part-preserved : goal.loop-part-preserved
 loop-part-preserved g c =
@@ -38,14 +38,14 @@ loop-part-preserved g c =
     let l = c.loop-part in
     let part = part_value c.in-Some.component in
     let h = header_value c.in_ok-header.header in
-    let entering = subst (λ p. Entering g.D.Device.meaning g.D.Device.moves a.data_block a.start.now a.store.now (parts a.path.now) l.store (parts_of p) l.list) c.in-Some.is l.invariant in
-    let found = subst (λ n. Ran g.D.Device.meaning g.D.Device.moves l.store (by_blocks a.data_block (find a.start.now part.at (by_name n) l.list)) (Ok h) c.find.new.store) c.name.ensures c.in_ok-header.ensures in
-    subst (λ p. Entering g.D.Device.meaning g.D.Device.moves a.data_block a.start.now a.store.now (parts a.path.now) c.find.new.store p c.in_ok-list.list) (sym c.next-part.ensures.parts)
-    (entering-goes g.D.Device.meaning g.D.Device.moves a.data_block a.start.now a.store.now (parts a.path.now) l.store c.find.new.store part (parts_behind c.in-Some.component) l.list entering h found c.in_ok-list.list c.in_ok-list.ensures)
+    let entering = subst (λ p. Entering g.D.Device.meaning g.D.Device.moves a.romfs.block.bytes a.romfs.start a.store.now (parts a.path.now) l.store (parts_of p) l.list) c.in-Some.is l.invariant in
+    let found = subst (λ n. Ran g.D.Device.meaning g.D.Device.moves l.store (by_blocks a.romfs.block.bytes (find a.romfs.start part.at (by_name n) l.list)) (Ok h) c.find.new.store) c.name.ensures c.in_ok-header.ensures in
+    subst (λ p. Entering g.D.Device.meaning g.D.Device.moves a.romfs.block.bytes a.romfs.start a.store.now (parts a.path.now) c.find.new.store p c.in_ok-list.list) (sym c.next-part.ensures.parts)
+    (entering-goes g.D.Device.meaning g.D.Device.moves a.romfs.block.bytes a.romfs.start a.store.now (parts a.path.now) l.store c.find.new.store part (parts_behind c.in-Some.component) l.list entering h found c.in_ok-list.list c.in_ok-list.ensures)
 
 pub returns : goal.returns
 returns g c =
     let a = c.args in
     let l = c.loop-part in
-    entering-ends g.D.Device.meaning g.D.Device.moves a.data_block a.start.now a.store.now (parts a.path.now) l.store l.list
-    (subst (λ p. Entering g.D.Device.meaning g.D.Device.moves a.data_block a.start.now a.store.now (parts a.path.now) l.store (parts_of p) l.list) c.in_default.is l.invariant)
+    entering-ends g.D.Device.meaning g.D.Device.moves a.romfs.block.bytes a.romfs.start a.store.now (parts a.path.now) l.store l.list
+    (subst (λ p. Entering g.D.Device.meaning g.D.Device.moves a.romfs.block.bytes a.romfs.start a.store.now (parts a.path.now) l.store (parts_of p) l.list) c.in_default.is l.invariant)
