@@ -8,3 +8,4 @@ pub mod Following
 pub mod Entering
 pub mod Pathing
 pub mod Fronts
+pub mod CallRuns

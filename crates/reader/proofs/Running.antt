@@ -12,6 +12,14 @@ use Rattle.volume.specs.declared.fault.VolumeFault.TheVariants.{Storage}
 use Rattle.reader.specs.Gather.{bytes_at}
 use Rattle.volume.specs.Fetches.{Fetches, give, refuse, fetch, after, put, settled, fetch_blocks, by_blocks}
 
+abbrev pub put_result : {E D X : Type 0} → (E → D) → Result X E → Result X D
+put_result within (Ok x) = Ok x
+put_result within (Err e) = Err (within e)
+
+abbrev pub turned : {E D X Y : Type 0} → (E → D) → (X → Y) → Result X E → Result Y D
+turned within to (Ok x) = Ok (to x)
+turned within to (Err e) = Err (within e)
+
 module _ {S F : Type 0} (meaning : S → Meaning F) (moves : S → Question → S → Type 0) (d : ℕ) where
   module _ {E X : Type 0} where
     -- what follows a fetch
@@ -72,44 +80,32 @@ module _ {S F : Type 0} (meaning : S → Meaning F) (moves : S → Question → 
 
   -- refusals put into others
   module _ {E D X : Type 0} (within : E → D) where
-    abbrev pub put_result : Result X E → Result X D
-    put_result (Ok x) = Ok x
-    put_result (Err e) = Err (within e)
-
     put_by : (from n : ℕ) (fault : F → E) (rest : List ℕ → Fetches F E X) (s t : S) (r : Result X E) (answer : Answer F) (v : S) → Ran meaning moves s (fetch_blocks d from n) answer v
-        → Ran meaning moves v (on fault rest answer) r t → ((bytes : List ℕ) → Ran meaning moves v (by_blocks d (rest bytes)) r t → Ran meaning moves v (by_blocks d (put within (rest bytes))) (put_result r) t)
-        → Ran meaning moves s (by_blocks d (put within (fetch from n fault rest))) (put_result r) t
-    put_by from n fault rest s t r (Ok bytes) v first second hyp = ran-fetched from n (λ f. within (fault f)) (λ b. put within (rest b)) s v t bytes (put_result r) first (hyp bytes second)
+        → Ran meaning moves v (on fault rest answer) r t → ((bytes : List ℕ) → Ran meaning moves v (by_blocks d (rest bytes)) r t → Ran meaning moves v (by_blocks d (put within (rest bytes))) (put_result within r) t)
+        → Ran meaning moves s (by_blocks d (put within (fetch from n fault rest))) (put_result within r) t
+    put_by from n fault rest s t r (Ok bytes) v first second hyp = ran-fetched from n (λ f. within (fault f)) (λ b. put within (rest b)) s v t bytes (put_result within r) first (hyp bytes second)
     put_by from n fault rest s t r (Err f) v first second hyp =
-        subst (λ x. Ran meaning moves s (by_blocks d (put within (fetch from n fault rest))) x t) (sym (ap put_result second.0))
+        subst (λ x. Ran meaning moves s (by_blocks d (put within (fetch from n fault rest))) x t) (sym (ap (put_result within) second.0))
         (subst (λ w. Ran meaning moves s (by_blocks d (put within (fetch from n fault rest))) (Err (within (fault f))) w) (sym second.1)
         (ran-unfetched from n (λ g. within (fault g)) (λ b. put within (rest b)) s v f first))
 
-    pub ran-put-within : (p : Fetches F E X) (s t : S) (r : Result X E) → Ran meaning moves s (by_blocks d p) r t → Ran meaning moves s (by_blocks d (put within p)) (put_result r) t
-    ran-put-within (give x) s t r ran = (ap put_result ran.0, ran.1)
-    ran-put-within (refuse e) s t r ran = (ap put_result ran.0, ran.1)
+    pub ran-put-within : (p : Fetches F E X) (s t : S) (r : Result X E) → Ran meaning moves s (by_blocks d p) r t → Ran meaning moves s (by_blocks d (put within p)) (put_result within r) t
+    ran-put-within (give x) s t r ran = (ap (put_result within) ran.0, ran.1)
+    ran-put-within (refuse e) s t r ran = (ap (put_result within) ran.0, ran.1)
     ran-put-within (fetch from n fault rest) s t r ran =
         let parts = ran-split meaning moves (fetch_blocks d from n) (on fault rest) s r t ran in
         put_by from n fault rest s t r parts.0 parts.1 parts.2 parts.3 (λ bytes inner. ran-put-within (rest bytes) parts.1 t r inner)
 
-  -- what a program comes to, put into something else
-  module _ {E X Y : Type 0} (p : Fetches F E X) (to : X → Y) where
-    abbrev pub turned : Result X E → Result Y E
-    turned (Ok x) = Ok (to x)
-    turned (Err e) = Err e
-
-    pub ran-to : (s t : S) (r : Result X E) → Ran meaning moves s (by_blocks d p) r t → Ran meaning moves s (by_blocks d (after p (λ x. give (to x)))) (turned r) t
-    ran-to s t (Ok x) ran = ran-on (λ y. give (to y)) p s t t x (Ok (to x)) ran (refl, refl)
-    ran-to s t (Err e) ran = ran-off (λ y. give (to y)) p s t e ran
+  -- and what a program comes to put into something else
+  module _ {E D X Y : Type 0} (p : Fetches F E X) (within : E → D) (to : X → Y) where
+    pub ran-gives : (s t : S) (r : Result X E) → Ran meaning moves s (by_blocks d p) r t → Ran meaning moves s (by_blocks d (after (put within p) (λ x. give (to x)))) (turned within to r) t
+    ran-gives s t (Ok x) ran = ran-on (λ y. give (to y)) (put within p) s t t x (Ok (to x)) (ran-put-within within p s t (Ok x) ran) (refl, refl)
+    ran-gives s t (Err e) ran = ran-off (λ y. give (to y)) (put within p) s t (within e) (ran-put-within within p s t (Err e) ran)
 
 -- what a `?` hands on
 pub err-is : {T E : Type 0} (r : Result T E) (e : E) → IsErr r × IsErrAnd r (λ x. x ≡ e) → r ≡ Err e
 err-is (Ok x) e both = absurd (false≢true both.0)
 err-is (Err x) e both = ap (λ y. Err y) both.1
-
--- what an `Err` holds
-pub err-inner : {T E : Type 0} (a b : E) → ◌≡◌ {A = Result T E} (Err a) (Err b) → a ≡ b
-err-inner a b is = cc
 
 -- bytes that are fetched and then read
 module _ {S F X : Type 0} (meaning : S → Meaning F) (moves : S → Question → S → Type 0) (d from n : ℕ) (parse : List ℕ → Result X (VolumeFault F)) (s t : S) where

@@ -18,6 +18,10 @@ use Rattle.reader.specs.Fetched.{Fetched}
 abbrev pub extent_of : Handle → Extent
 extent_of handle = record { start = handle.start; size = handle.size }
 
+abbrev pub file_of : {E : Type 0} → Result Handle E → Result Extent E
+file_of (Ok handle) = Ok (extent_of handle)
+file_of (Err e) = Err e
+
 abbrev pub state_of : State → calls.State
 state_of s = record { begun = s.begun; held = s.held }
 
@@ -64,8 +68,3 @@ outcome given buffer state (Err refusal) = Err refusal
 abbrev pub refused : {F X : Type 0} → Result X (Handle × F) → Result X F
 refused (Ok x) = Ok x
 refused (Err both) = Err both.1
-
--- bytes that were fetched into a buffer
-abbrev pub fetched : {X F : Type 0} → Result X F → List ℕ → Result (List ℕ) F
-fetched (Ok x) buffer = Ok buffer
-fetched (Err refusal) buffer = Err refusal

@@ -73,6 +73,6 @@ pub(crate) fn fetch_at<D: Device>(
 {
     match fetch(store, block, from, buf) {
         Ok(()) => Ok(()),
-        Err(fault) => Err((fault, from))?,
+        Err(fault) => Err(VolumeFault::from((fault, from))),
     }
 }

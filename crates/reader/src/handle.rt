@@ -1,16 +1,7 @@
 // Files that are open.
 ghost use Rattle.std.specs.Prelude.{◌≡◌, ◌<◌, ◌+◌, ◌-◌, true, false, min, nat_lt, IfNone, IfSome};
-ghost use Rattle.reader.specs.Calls.{extent_of};
-ghost use Rattle.reader.specs.File.{extent_of as file_extent};
 
 use volume::Start;
-
-// Where the data of a file stand on the volume.
-#[derive(Clone, Copy)]
-pub(crate) struct File {
-    pub(crate) start: u32,
-    pub(crate) size: u32,
-}
 
 /// A file that is open: where its data stand on the volume. Only `open` makes one, and it cannot be let go: it is handed to
 /// `whole` or `close`.
@@ -30,15 +21,6 @@ pub struct Position<'a> {
 }
 
 impl Handle {
-    pub(crate) fn from_file(file: File) -> Handle
-        ensures { extent_of result ≡ file_extent file }
-    {
-        Handle {
-            start: file.start,
-            size: file.size,
-        }
-    }
-
     /// The offset of its first byte on the volume.
     pub fn start(&self) -> u32
         ensures { result ≡ self.now.start }

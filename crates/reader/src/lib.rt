@@ -2,9 +2,9 @@
 #![tactic(auto)]
 
 mod block;
-mod bytes;
 mod component;
 mod fetch;
+mod front;
 mod handle;
 mod header;
 mod paths;

@@ -2,12 +2,12 @@
 ghost use Rattle.std.specs.Prelude.{◌≡◌, Some};
 ghost use Rattle.volume.specs.Paths.{enter_all, file_at, list_path, open_path, parts};
 ghost use Rattle.reader.specs.Fetched.{Reads};
-ghost use Rattle.reader.specs.File.{file_of};
+ghost use Rattle.reader.specs.Calls.{file_of};
 ghost use Rattle.reader.specs.Header.{read_of};
 ghost use Rattle.reader.specs.Parts.{parts_of};
 
 use crate::component::Component;
-use crate::handle::File;
+use crate::handle::Handle;
 use crate::header::Header;
 use crate::romfs::Romfs;
 use crate::sought::Sought;
@@ -40,7 +40,7 @@ fn file_at<D: Device>(
     store: &mut D,
     romfs: Romfs,
     first: Component<'_>,
-) -> Result<File, PathFault<D::Refusal>>
+) -> Result<Handle, PathFault<D::Refusal>>
     ensures { Reads D.meaning D.moves romfs store.old (λ v. file_at v (parts_of (Some first.entry)) v.root) (file_of result) store.new }
 {
     let mut list = romfs.start.root;
@@ -64,7 +64,7 @@ pub(crate) fn open_path<D: Device>(
     store: &mut D,
     romfs: Romfs,
     path: &[u8],
-) -> Result<File, PathFault<D::Refusal>>
+) -> Result<Handle, PathFault<D::Refusal>>
     ensures { Reads D.meaning D.moves romfs store.old (λ v. open_path v path.now) (file_of result) store.new }
 {
     if let Some(at) = Component::first_bad(path) {

@@ -64,6 +64,6 @@ pub(crate) fn header_for<D: Device>(
 {
     match read_header(store, romfs, at) {
         Ok(header) => Ok(header),
-        Err(fault) => Err((fault, place))?,
+        Err(fault) => Err(PathFault::from((fault, place))),
     }
 }

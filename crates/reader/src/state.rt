@@ -2,7 +2,8 @@
 ghost use Rattle.std.specs.Prelude.{◌≡◌, None};
 
 use crate::block::BlockSize;
-use crate::bytes::{read_bytes, read_front};
+use crate::fetch::fetch_at;
+use crate::front::read_front;
 use crate::handle::{Handle, Position};
 use crate::paths::{list_path, open_path};
 use crate::romfs::Romfs;
@@ -88,9 +89,9 @@ impl State {
             return Err(Refusal::Mount(MountRule::Held));
         }
         match open_path(store, Romfs::new(geometry, start), path) {
-            Ok(file) => {
+            Ok(handle) => {
                 self.held += 1;
-                Ok(Handle::from_file(file))
+                Ok(handle)
             }
             Err(fault) => Err(Refusal::Path(fault)),
         }
@@ -123,7 +124,7 @@ impl State {
         let from = position.handle.start + position.offset as u32;
         match read_front(store, BlockSize::of(geometry), from, count, buf) {
             Ok(()) => Ok(count),
-            Err(refusal) => Err(refusal),
+            Err(fault) => Err(Refusal::Volume(fault)),
         }
     }
 
@@ -153,13 +154,13 @@ impl State {
         if buf.len() != handle.size as usize {
             return Err((handle, Refusal::Mount(MountRule::Length)));
         }
-        match read_bytes(store, BlockSize::of(geometry), handle.start, buf) {
+        match fetch_at(store, BlockSize::of(geometry), handle.start, buf) {
             Ok(()) => {
                 handle.spend();
                 self.held -= 1;
                 Ok(())
             }
-            Err(refusal) => Err((handle, refusal)),
+            Err(fault) => Err((handle, Refusal::Volume(fault))),
         }
     }
 

@@ -2,11 +2,11 @@
 ghost use Rattle.std.specs.Prelude.{◌≡◌, ◌<◌, ◌+◌, true, false, nat_lt, MatchOption};
 ghost use Rattle.reader.specs.Fetched.{Reads};
 ghost use Rattle.reader.specs.Header.{header_value, leads_to};
-ghost use Rattle.reader.specs.File.{file_of};
+ghost use Rattle.reader.specs.Calls.{file_of};
 ghost use Rattle.volume.specs.Fetches.{settled};
 ghost use Rattle.volume.specs.Use.{broken as broken_rule, enter as enter_rules, file as file_rules};
 
-use crate::handle::File;
+use crate::handle::Handle;
 use crate::header::Header;
 use crate::reading::header_for;
 use crate::romfs::Romfs;
@@ -51,7 +51,7 @@ fn within(start: Start, from: u64, size: u32) -> Option<u32>
 }
 
 // The data of a regular file.
-fn file<F>(start: Start, place: usize, header: &Header) -> Result<File, PathFault<F>>
+fn file<F>(start: Start, place: usize, header: &Header) -> Result<Handle, PathFault<F>>
     ensures { settled (file_of result) ≡ file_rules start place (header_value header.now) }
 {
     if header.info != 0 {
@@ -60,19 +60,20 @@ fn file<F>(start: Start, place: usize, header: &Header) -> Result<File, PathFaul
     let data = u64::from(header.at) + u64::from(header.length);
     let size = header.entry.size;
     match within(start, data, size) {
-        Some(start) => Ok(File { start, size }),
+        Some(start) => Ok(Handle { start, size }),
         None => Err(broken(place, header, VolumeRule::Data)),
     }
 }
 
 // The file that the last component of a path leads to, once so many links were followed.
+#[tactic(auto, using(crate::proofs::Following::follow_is))]
 pub(crate) fn follow<D: Device>(
     store: &mut D,
     romfs: Romfs,
     place: usize,
     links: u8,
     header: &Header,
-) -> Result<File, PathFault<D::Refusal>>
+) -> Result<Handle, PathFault<D::Refusal>>
     ensures { Reads D.meaning D.moves romfs store.old (λ v. leads_to v place links (header_value header.now)) (file_of result) store.new }
 {
     match header.entry.kind {

@@ -3,7 +3,7 @@ use Rattle.device.specs.Run.{Ran}
 use Rattle.volume.specs.Fetches.{by_blocks}
 use Rattle.volume.specs.Walk.{by_name, find}
 use Rattle.volume.specs.Paths.{file_at as file_at_rules}
-use Rattle.reader.specs.File.{file_of}
+use Rattle.reader.specs.Calls.{file_of}
 use Rattle.reader.specs.Header.{header_value}
 use Rattle.reader.specs.Parts.{part_value, parts_behind, parts_of}
 use Rattle.reader.proofs.Running.{err-is}

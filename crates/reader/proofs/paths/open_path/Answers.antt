@@ -2,7 +2,7 @@ use Rattle.std.proofs.Common.{◌≡◌, None, sym, ap, ◌∙◌, subst}
 use Rattle.device.specs.Run.{Ran}
 use Rattle.volume.specs.Fetches.{by_blocks}
 use Rattle.volume.specs.Paths.{first_bad, file_at, parts}
-use Rattle.reader.specs.File.{file_of}
+use Rattle.reader.specs.Calls.{file_of}
 use Rattle.reader.specs.Parts.{parts_of}
 use Rattle.reader.proofs.Pathing.{open-bad, open-goes, open-none}
 use Rattle.reader.proofs.paths.open_path.Goals as goal
