@@ -108,12 +108,14 @@ err-is (Ok x) e both = absurd (false≢true both.0)
 err-is (Err x) e both = ap (λ y. Err y) both.1
 
 -- bytes that are fetched and then read
-module _ {S F X : Type 0} (meaning : S → Meaning F) (moves : S → Question → S → Type 0) (d from n : ℕ) (parse : List ℕ → Result X (VolumeFault F)) (s t : S) where
-  pub ran-parsed : (bytes : List ℕ) (r : Result X (VolumeFault F)) → Ran meaning moves s (by_blocks d (bytes_at from n)) (Ok bytes) t → r ≡ parse bytes
-      → Ran meaning moves s (by_blocks d (fetch from n (λ fault. Storage from fault) (λ b. settled (parse b)))) r t
-  ran-parsed bytes r first is =
-      ran-on meaning moves d (λ b. settled (parse b)) (bytes_at from n) s t t bytes r first
-      (subst (λ x. Ran meaning moves t (by_blocks d (settled (parse bytes))) x t) (sym is) (ran-settled meaning moves d (parse bytes) t))
+module _ {S F X : Type 0} (meaning : S → Meaning F) (moves : S → Question → S → Type 0) (d from n m : ℕ) (long : m ≡ n) (parse : List ℕ → Result X (VolumeFault F)) (s t : S) where
+  abbrev parsed : Result (List ℕ) (VolumeFault F) → Result X (VolumeFault F)
+  parsed (Ok bytes) = parse bytes
+  parsed (Err e) = Err e
 
-  pub ran-unparsed : (e : VolumeFault F) → Ran meaning moves s (by_blocks d (bytes_at from n)) (Err e) t → Ran meaning moves s (by_blocks d (fetch from n (λ fault. Storage from fault) (λ b. settled (parse b)))) (Err e) t
-  ran-unparsed e first = ran-off meaning moves d (λ b. settled (parse b)) (bytes_at from n) s t e first
+  pub ran-parsed : (r : Result (List ℕ) (VolumeFault F)) → Ran meaning moves s (by_blocks d (bytes_at from m)) r t → Ran meaning moves s (by_blocks d (fetch from n (λ fault. Storage from fault) (λ b. settled (parse b)))) (parsed r) t
+  ran-parsed r ran = by_result r (subst (λ k. Ran meaning moves s (by_blocks d (bytes_at from k)) r t) long ran)
+    where
+      by_result : (r : Result (List ℕ) (VolumeFault F)) → Ran meaning moves s (by_blocks d (bytes_at from n)) r t → Ran meaning moves s (by_blocks d (fetch from n (λ fault. Storage from fault) (λ b. settled (parse b)))) (parsed r) t
+      by_result (Ok bytes) ran = ran-on meaning moves d (λ b. settled (parse b)) (bytes_at from n) s t t bytes (parse bytes) ran (ran-settled meaning moves d (parse bytes) t)
+      by_result (Err e) ran = ran-off meaning moves d (λ b. settled (parse b)) (bytes_at from n) s t e ran

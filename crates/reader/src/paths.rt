@@ -60,6 +60,7 @@ fn file_at<D: Device>(
 }
 
 // The file that a path names.
+#[tactic(auto, unfolding(volume::specs::Paths::open_path, volume::specs::Paths::file_at))]
 pub(crate) fn open_path<D: Device>(
     store: &mut D,
     romfs: Romfs,
@@ -77,6 +78,7 @@ pub(crate) fn open_path<D: Device>(
 }
 
 // The entry of a number in the directory that a path names.
+#[tactic(auto, unfolding(volume::specs::Paths::list_path))]
 pub(crate) fn list_path<D: Device>(
     store: &mut D,
     romfs: Romfs,

@@ -33,6 +33,7 @@ fn fetch_size(start: &Start, at: u32) -> usize
 }
 
 // The header at an offset: its bytes, up to the longest name's and the volume's end.
+#[tactic(auto, unfolding(volume::specs::Header::header))]
 fn read_header<D: Device>(
     store: &mut D,
     romfs: Romfs,
