@@ -1,11 +1,9 @@
 -- The rules of the six calls, once their tests are passed.
-use Rattle.std.proofs.Common.{◌≡◌, ℕ, ◌+◌, ◌-◌, min, true, false, not, ltb, List, [], Result, None, Some, sym, ◌∙◌, subst, ◌==◌, ◌||◌}
+use Rattle.std.proofs.Common.{◌≡◌, ℕ, ◌+◌, ◌-◌, min, false, ltb, List, [], Result, None, Some, sym, ◌∙◌, subst}
 use Rattle.std.proofs.lemmas.Bool.{eq-eqb, ne_eqb}
 use Rattle.device.specs.declared.question.Question.{Question}
 use Rattle.device.specs.Program.{Meaning}
 use Rattle.volume.specs.declared.types.Start.{Start}
-use Rattle.volume.specs.declared.fault.VolumeFault.{VolumeFault}
-use Rattle.volume.specs.declared.fault.PathFault.{PathFault}
 use Rattle.volume.specs.Fetches.{Fetches, give, after, put}
 use Rattle.volume.specs.Header.{Header}
 use Rattle.volume.specs.Start.{start}

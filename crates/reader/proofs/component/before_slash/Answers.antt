@@ -1,4 +1,4 @@
-use Rattle.std.proofs.Common.{None, sym, subst}
+use Rattle.std.proofs.Common.{None, sym}
 use Rattle.reader.proofs.Parting.{before_slash}
 use Rattle.reader.proofs.component.before_slash.Goals as goal
 

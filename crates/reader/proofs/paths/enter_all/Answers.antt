@@ -1,9 +1,9 @@
-use Rattle.std.proofs.Common.{◌≡◌, [], ◌∷◌, Ok, Err, Some, None, sym, ap, ◌∙◌, subst}
+use Rattle.std.proofs.Common.{Ok, Err, sym, subst}
 use Rattle.device.specs.Run.{Ran}
 use Rattle.volume.specs.Fetches.{by_blocks}
 use Rattle.volume.specs.Walk.{by_name, find}
 use Rattle.volume.specs.Paths.{enter_all as enter_all_rules, parts}
-use Rattle.reader.specs.Header.{header_value, read_of}
+use Rattle.reader.specs.Header.{header_value}
 use Rattle.reader.specs.Parts.{part_value, parts_behind, parts_of}
 use Rattle.reader.proofs.Running.{err-is}
 use Rattle.reader.proofs.Entering.{Entering, entering-ends, entering-lost, entering-stops, entering-goes}

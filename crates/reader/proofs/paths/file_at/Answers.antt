@@ -1,4 +1,4 @@
-use Rattle.std.proofs.Common.{◌≡◌, [], ◌∷◌, Ok, Err, Some, None, sym, ap, ◌∙◌, subst}
+use Rattle.std.proofs.Common.{Ok, Err, Some, sym, ap, ◌∙◌, subst}
 use Rattle.device.specs.Run.{Ran}
 use Rattle.volume.specs.Fetches.{by_blocks}
 use Rattle.volume.specs.Walk.{by_name, find}
@@ -7,7 +7,7 @@ use Rattle.reader.specs.Calls.{file_of}
 use Rattle.reader.specs.Header.{header_value}
 use Rattle.reader.specs.Parts.{part_value, parts_behind, parts_of}
 use Rattle.reader.proofs.Running.{err-is}
-use Rattle.reader.proofs.Entering.{Reaching, reaching-lost, reaching-last, reaching-stops, reaching-goes}
+use Rattle.reader.proofs.Entering.{reaching-lost, reaching-last, reaching-stops, reaching-goes}
 use Rattle.reader.proofs.paths.file_at.Goals as goal
 
 pub returns-in_err-header : goal.returns-in_err-header

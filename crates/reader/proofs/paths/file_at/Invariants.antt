@@ -1,4 +1,4 @@
-use Rattle.std.proofs.Common.{Some, ◌-◌, length}
+use Rattle.std.proofs.Common.{Some}
 use Rattle.reader.specs.Parts.{parts_of}
 use Rattle.reader.proofs.Parting.{left}
 use Rattle.reader.proofs.Entering.{Reaching}

@@ -1,4 +1,4 @@
-use Rattle.std.proofs.Common.{Ok, Err, length, sym, ◌∙◌}
+use Rattle.std.proofs.Common.{length, sym, ◌∙◌}
 use Rattle.volume.specs.Paths.{enter_all, list_path, parts}
 use Rattle.volume.specs.Walk.{by_index, find}
 use Rattle.reader.specs.Header.{read_of}

@@ -1,7 +1,6 @@
-use Rattle.std.proofs.Common.{◌≡◌, ◌-◌, length, Option, None, Some, suc}
+use Rattle.std.proofs.Common.{◌≡◌}
 use Rattle.volume.specs.Paths.{first_bad, parts}
 use Rattle.reader.specs.Parts.{parts_of}
-use Rattle.reader.specs.declared.component.Component.{Component}
 use Rattle.reader.proofs.Parting.{left}
 use Rattle.reader.proofs.component.Component.first_bad.Given as goal
 
