@@ -187,7 +187,7 @@ module _ {S R : Type 0} (meaning : S → Meaning R) (moves : S → Question → 
     pub going-ends : (fault : R) → Ran meaning moves now (part_of d (at / d) (at % d) size) (Err fault) then → Ran meaning moves start (gather d whole (from / d) (from % d) whole) (Err fault) then
     going-ends fault part =
         going.2 (Err fault) then
-        (subst (λ k. Ran meaning moves now (gather d k (at / d) (at % d) n) (Err fault) then) (sym fuel)
+        (rw fuel
         (gather-ends (going.0 - 1) (at / d) (at % d) n (λ e. absurd (omega arith)) now fault then (rest_of (Err fault) part)))
 
     -- and goes on behind a part
@@ -199,7 +199,7 @@ module _ {S R : Type 0} (meaning : S → Meaning R) (moves : S → Question → 
       λ answer end ran.
           subst (λ a. Ran meaning moves start (gather d whole (from / d) (from % d) whole) a end) (fronts front piece answer ∙ ap (λ f. prefixed f answer) (sym is))
           (going.2 (prefixed piece answer) end
-          (subst (λ k. Ran meaning moves now (gather d k (at / d) (at % d) n) (prefixed piece answer) end) (sym fuel)
+          (rw fuel
           (gather-goes (going.0 - 1) (at / d) (at % d) n (λ e. absurd (omega arith)) now piece then answer end (rest_of (Ok piece) part) (behind answer end ran)))),
     )
       where
@@ -209,12 +209,8 @@ module _ {S R : Type 0} (meaning : S → Meaning R) (moves : S → Question → 
         behind : (answer : Answer R) (end : S) → Ran meaning moves then (gather d (going.0 - 1) (next / d) (next % d) left) answer end → Ran meaning moves then (gather d (going.0 - 1) (suc (at / d)) 0 (n - min n (d - at % d))) answer end
         behind answer end ran = elim (cases_le n (d - at % d)) [
           | inl short ↦
-              let none : left ≡ 0 = omega arith in
-              let done_here = none-left (going.0 - 1) (next / d) (next % d) left none then answer end ran in
-              let empty : n - min n (d - at % d) ≡ 0 = omega arith in
-              subst (λ a. Ran meaning moves then (gather d (going.0 - 1) (suc (at / d)) 0 (n - min n (d - at % d))) a end) (sym done_here.0)
-              (subst (λ e. Ran meaning moves then (gather d (going.0 - 1) (suc (at / d)) 0 (n - min n (d - at % d))) (Ok []) e) (sym done_here.1)
-              (gather-none (going.0 - 1) (suc (at / d)) 0 (n - min n (d - at % d)) empty then))
+              let done_here = none-left (going.0 - 1) (next / d) (next % d) left (omega arith) then answer end ran in
+              rw (done_here.0, done_here.1) (gather-none (going.0 - 1) (suc (at / d)) 0 (n - min n (d - at % d)) (omega arith) then)
           | inr long ↦
               let parts = div-add-mod' at d in
               let inside = mod_below at d some in
@@ -225,7 +221,5 @@ module _ {S R : Type 0} (meaning : S → Meaning R) (moves : S → Question → 
               let times : next / d * d ≡ suc (at / d) * d = ap (λ k. k * d) block in
               let skip : next % d ≡ 0 = omega arith in
               let same : left ≡ n - min n (d - at % d) = omega arith in
-              subst (λ b. Ran meaning moves then (gather d (going.0 - 1) b 0 (n - min n (d - at % d))) answer end) block
-              (subst (λ k. Ran meaning moves then (gather d (going.0 - 1) (next / d) k (n - min n (d - at % d))) answer end) skip
-              (subst (λ m. Ran meaning moves then (gather d (going.0 - 1) (next / d) (next % d) m) answer end) same ran))
+              rw (block, skip, same) at ran
         ]
