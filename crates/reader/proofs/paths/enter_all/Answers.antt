@@ -1,4 +1,3 @@
-use Rattle.std.proofs.Common.{sym}
 use Rattle.volume.specs.Paths.{parts}
 use Rattle.reader.specs.Header.{header_value}
 use Rattle.reader.specs.Parts.{part_value, parts_behind}
