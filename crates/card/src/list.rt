@@ -4,14 +4,13 @@ use crate::open_card::Card;
 use digest::Digest;
 use mount::Mount;
 use open_files::{Listed, entry_at};
-use script::{executable_letter, letter};
 use std::{io, str};
 use text::with_digest;
 
 fn print_entry(rt: &HostRuntime, listed: &Listed) -> io::Result<()> {
     let entry = listed.entry;
-    let kind = letter(entry.kind);
-    let executable = executable_letter(entry.executable);
+    let kind = entry.kind.letter();
+    let executable = entry.executable_letter();
     // a name that the card gives is printable ASCII
     let name = str::from_utf8(listed.name()).unwrap_or("?");
     println!(rt; "{kind} {executable} {:>10} {name}", entry.size)

@@ -1,7 +1,7 @@
 -- Gathering parts block by block is a fetch.
 use Rattle.std.proofs.Common.{◌≡◌, ◌⊎◌, ℕ, zero, suc, ◌+◌, ◌-◌, ◌*◌, ◌/◌, ◌%◌, ◌≤◌, ◌<◌, min, cond, eqb, List, [], ◌++◌, length, take, drop, Ok, Err, append_assoc, refl, sym, ap, ap₂, ◌∙◌, subst, inl, inr, arith}
-use Rattle.std.proofs.lemmas.Bool.{cond-true, cond-false, cases_eq, cases_lt, eq-eqb, ne_eqb}
-use Rattle.std.proofs.lemmas.Nat.{mod_below, div-add-mod', div_below, le-div}
+use Rattle.std.proofs.lemmas.Bool.{cases_eq, cases_lt, eq-eqb, ne_eqb}
+use Rattle.std.proofs.lemmas.Nat.{mod_below, div-add-mod', div_below}
 use Rattle.std.proofs.Math.Seq.{take-append-add}
 use Rattle.std.proofs.Math.Nat.{add-mul-div_right, mul-div_left}
 use Rattle.std.proofs.lemmas.List.{drop-append-le, take-append-le, take_all, length-drop, append-nil}
@@ -47,43 +47,34 @@ two_parts d skip n block more inside long =
 
 one_more : (d k : ℕ) → 0 < d → (d + k) / d ≡ suc (k / d)
 one_more d k some =
-    let parts = div-add-mod' k d in
-    let low = mod_below k d some in
-    let times : suc (k / d) * d ≡ k / d * d + d = omega arith in
-    let above : suc (k / d) + 1 ≡ k / d + 2 = omega arith in
-    let times' : (k / d + 2) * d ≡ k / d * d + d + d = omega arith in
-    let lower = le-div (suc (k / d)) (d + k) d some (omega arith) in
-    let upper = div_below (d + k) d (k / d + 2) some (omega arith) in
-    omega arith
+    let parts : d + k ≡ k + 1 * d = omega arith in
+    let sum = add-mul-div_right k 1 some in
+    ap (λ m. m / d) parts ∙ omega (arith, sum)
 
 -- the blocks behind the first
 counts : (d skip n : ℕ) → 0 < d → skip < d → (n ≡ 0 → ⊥) → count d skip n ≡ suc (count d 0 (n - min n (d - skip)))
 counts d skip n some inside more =
-    let last : count d skip n ≡ suc ((skip + n - 1) / d) = cond-false (eqb n 0) 0 (suc ((skip + n - 1) / d)) (ne_eqb n 0 more) in
     let m = n - min n (d - skip) in
-    last
-    ∙ ap suc (elim (cases_le n (d - skip)) [
+    rw (ne_eqb n 0 more)
+    (ap suc (elim (cases_le n (d - skip)) [
       | inl low ↦
           let none : m ≡ 0 = omega arith in
           let small = div_below (skip + n - 1) d 1 some (omega arith) in
-          let zero_blocks : (skip + n - 1) / d ≡ 0 = omega arith in
-          zero_blocks ∙ sym (cond-true (eqb m 0) 0 (suc ((0 + m - 1) / d)) (eq-eqb m 0 none))
+          rw (eq-eqb m 0 none) (omega arith)
       | inr high ↦
-          let some_more : m ≡ 0 → ⊥ = λ e. absurd (omega arith) in
           let parts : skip + n - 1 ≡ d + (0 + m - 1) = omega arith in
-          ap (λ k. k / d) parts ∙ one_more d (0 + m - 1) some ∙ sym (cond-false (eqb m 0) 0 (suc ((0 + m - 1) / d)) (ne_eqb m 0 some_more))
-    ])
+          rw (ne_eqb m 0 (λ e. absurd (omega arith))) (ap (λ k. k / d) parts ∙ one_more d (0 + m - 1) some)
+    ]))
 
 same_count : (d from n : ℕ) → 0 < d → count d (from % d) n ≡ touched d from n
 same_count d from n some =
     elim (cases_eq n 0) [
-      | inl none ↦ cond-true (eqb n 0) 0 (suc ((from % d + n - 1) / d)) (eq-eqb n 0 none) ∙ sym (cond-true (eqb n 0) 0 (suc ((from + n - 1) / d) - from / d) (eq-eqb n 0 none))
+      | inl none ↦ rw (eq-eqb n 0 none) refl
       | inr more ↦
           let parts = div-add-mod' from d in
           let whole : from + n - 1 ≡ from % d + n - 1 + from / d * d = omega arith in
           let sum : (from + n - 1) / d ≡ (from % d + n - 1) / d + from / d = ap (λ k. k / d) whole ∙ add-mul-div_right (from % d + n - 1) (from / d) some in
-          cond-false (eqb n 0) 0 (suc ((from % d + n - 1) / d)) (ne_eqb n 0 more) ∙ (let e : suc ((from % d + n - 1) / d) ≡ suc ((from + n - 1) / d) - from / d = omega arith in e)
-          ∙ sym (cond-false (eqb n 0) 0 (suc ((from + n - 1) / d) - from / d) (ne_eqb n 0 more))
+          rw (ne_eqb n 0 more) (omega arith)
     ]
 
 -- what is left to gather from an offset: whatever run it has from here, the whole has from the start
@@ -97,9 +88,7 @@ module _ {S R : Type 0} (meaning : S → Meaning R) (moves : S → Question → 
   pub gather-none : (k b skip n : ℕ) → n ≡ 0 → (s : S) → Ran meaning moves s (gather d k b skip n) (Ok []) s
   unfolding gather
   gather-none zero b skip n none s = (refl, refl)
-  gather-none (suc k) b skip n none s =
-      let rest : Program R (Answer R) = bind (part_of d b skip (min n (d - skip))) (with_part (λ piece. bind (gather d k (suc b) 0 (n - min n (d - skip))) (λ more. done (prefixed piece more)))) in
-      subst (λ t. Ran meaning moves s (cond t (done (Ok [])) rest) (Ok []) s) (sym (eq-eqb n 0 none)) (refl, refl)
+  gather-none (suc k) b skip n none s = rw none (refl, refl)
 
   module _ (k b skip n : ℕ) (more : n ≡ 0 → ⊥) (s : S) where
     abbrev size : ℕ
@@ -109,9 +98,7 @@ module _ {S R : Type 0} (meaning : S → Meaning R) (moves : S → Question → 
         → Ran meaning moves u (with_part (λ p. bind (gather d k (suc b) 0 (n - size)) (λ rest. done (prefixed p rest))) piece) answer t → Ran meaning moves s (gather d (suc k) b skip n) answer t
     unfolding gather
     part_by piece u answer t part rest =
-        let on : Answer R → Program R (Answer R) = with_part (λ p. bind (gather d k (suc b) 0 (n - size)) (λ r. done (prefixed p r))) in
-        subst (λ x. Ran meaning moves s (cond x (done (Ok [])) (bind (part_of d b skip size) on)) answer t) (sym (ne_eqb n 0 more))
-        (ran-bind meaning moves (part_of d b skip size) on s piece u answer t part rest)
+        rw (ne_eqb n 0 more) (ran-bind meaning moves (part_of d b skip size) (with_part (λ p. bind (gather d k (suc b) 0 (n - size)) (λ r. done (prefixed p r)))) s piece u answer t part rest)
 
     -- it ends with the fault of a part
     pub gather-ends : (fault : R) (u : S) → Ran meaning moves s (part_of d b skip size) (Err fault) u → Ran meaning moves s (gather d (suc k) b skip n) (Err fault) u
@@ -129,9 +116,7 @@ module _ {S R : Type 0} (meaning : S → Meaning R) (moves : S → Question → 
 
   nothing : (n : ℕ) → n ≡ 0 → (b skip : ℕ) (s : S) (answer : Answer R) (t : S) → answer ≡ Ok [] → t ≡ s → Ran meaning moves s (row (count d skip n) b skip n) answer t
   nothing n none b skip s answer t is same =
-      let c : 0 ≡ count d skip n = sym (cond-true (eqb n 0) 0 (suc ((skip + n - 1) / d)) (eq-eqb n 0 none)) in
-      let empty : take n (drop skip []) ≡ [] = ap (λ k. take k (drop skip [])) none in
-      subst (λ k. Ran meaning moves s (row k b skip n) answer t) c (is ∙ ap (λ xs. Ok xs) (sym empty), same)
+      rw none (is, same)
 
   -- what was wanted of a block and of those behind it
   both : (skip n : ℕ) (block : List ℕ) → skip < d → length block ≡ d → (y : Answer R) → prefixed (take (min n (d - skip)) (drop skip block)) (cut 0 (n - min n (d - skip)) y) ≡ cut skip n (joined block y)
@@ -164,15 +149,11 @@ module _ {S R : Type 0} (meaning : S → Meaning R) (moves : S → Question → 
   unfolding gather
   gathered zero b skip n room inside s answer t ran = nothing n (omega arith) b skip s answer t ran.0 ran.1
   gathered (suc k) b skip n room inside s answer t ran =
-      let part = part_of {F = R} d b skip (min n (d - skip)) in
-      let on : Answer R → Program R (Answer R) = with_part (λ piece. bind (gather d k (suc b) 0 (n - min n (d - skip))) (λ more. done (prefixed piece more))) in
       let q : Question = record { area = Data; block = b; length = d } in
       elim (cases_eq n 0) [
-        | inl none ↦
-            let at_end = subst (λ x. Ran meaning moves s (cond x (done (Ok [])) (bind part on)) answer t) (eq-eqb n 0 none) ran in
-            nothing n none b skip s answer t at_end.0 at_end.1
+        | inl none ↦ let at_end = rw (eq-eqb n 0 none) at ran in nothing n none b skip s answer t at_end.0 at_end.1
         | inr more ↦
-            let went : Ran meaning moves s (bind part on) answer t = subst (λ x. Ran meaning moves s (cond x (done (Ok [])) (bind part on)) answer t) (ne_eqb n 0 more) ran in
+            let went = rw (ne_eqb n 0 more) at ran in
             let u = went.0 in
             subst (λ c. Ran meaning moves s (row c b skip n) answer t) (sym (counts d skip n some inside more))
             (u, went.1, by_answer k b skip n inside u t answer (λ x r. gathered k (suc b) 0 (n - min n (d - skip)) (omega arith) some u x t r) (meaning s [] q) (sized s [] q) went.2)
@@ -193,10 +174,7 @@ module _ {S R : Type 0} (meaning : S → Meaning R) (moves : S → Question → 
   unfolding gather
   none-left zero b skip n none s answer t ran = (ran.0, ran.1)
   none-left (suc k) b skip n none s answer t ran =
-      let part = part_of {F = R} d b skip (min n (d - skip)) in
-      let on : Answer R → Program R (Answer R) = with_part (λ piece. bind (gather d k (suc b) 0 (n - min n (d - skip))) (λ more. done (prefixed piece more))) in
-      let at_end = subst (λ x. Ran meaning moves s (cond x (done (Ok [])) (bind part on)) answer t) (eq-eqb n 0 none) ran in
-      (at_end.0, at_end.1)
+      let at_end = rw (eq-eqb n 0 none) at ran in (at_end.0, at_end.1)
 
   module _ (start now then : S) (from whole at n size : ℕ) (front : List ℕ) (going : Going meaning moves d start from whole now at n front) (more : 0 < n) (sized' : size ≡ min n (d - at % d)) where
     fuel : going.0 ≡ suc (going.0 - 1)
@@ -209,7 +187,7 @@ module _ {S R : Type 0} (meaning : S → Meaning R) (moves : S → Question → 
     pub going-ends : (fault : R) → Ran meaning moves now (part_of d (at / d) (at % d) size) (Err fault) then → Ran meaning moves start (gather d whole (from / d) (from % d) whole) (Err fault) then
     going-ends fault part =
         going.2 (Err fault) then
-        (subst (λ k. Ran meaning moves now (gather d k (at / d) (at % d) n) (Err fault) then) (sym fuel)
+        (rw fuel
         (gather-ends (going.0 - 1) (at / d) (at % d) n (λ e. absurd (omega arith)) now fault then (rest_of (Err fault) part)))
 
     -- and goes on behind a part
@@ -221,7 +199,7 @@ module _ {S R : Type 0} (meaning : S → Meaning R) (moves : S → Question → 
       λ answer end ran.
           subst (λ a. Ran meaning moves start (gather d whole (from / d) (from % d) whole) a end) (fronts front piece answer ∙ ap (λ f. prefixed f answer) (sym is))
           (going.2 (prefixed piece answer) end
-          (subst (λ k. Ran meaning moves now (gather d k (at / d) (at % d) n) (prefixed piece answer) end) (sym fuel)
+          (rw fuel
           (gather-goes (going.0 - 1) (at / d) (at % d) n (λ e. absurd (omega arith)) now piece then answer end (rest_of (Ok piece) part) (behind answer end ran)))),
     )
       where
@@ -231,12 +209,8 @@ module _ {S R : Type 0} (meaning : S → Meaning R) (moves : S → Question → 
         behind : (answer : Answer R) (end : S) → Ran meaning moves then (gather d (going.0 - 1) (next / d) (next % d) left) answer end → Ran meaning moves then (gather d (going.0 - 1) (suc (at / d)) 0 (n - min n (d - at % d))) answer end
         behind answer end ran = elim (cases_le n (d - at % d)) [
           | inl short ↦
-              let none : left ≡ 0 = omega arith in
-              let done_here = none-left (going.0 - 1) (next / d) (next % d) left none then answer end ran in
-              let empty : n - min n (d - at % d) ≡ 0 = omega arith in
-              subst (λ a. Ran meaning moves then (gather d (going.0 - 1) (suc (at / d)) 0 (n - min n (d - at % d))) a end) (sym done_here.0)
-              (subst (λ e. Ran meaning moves then (gather d (going.0 - 1) (suc (at / d)) 0 (n - min n (d - at % d))) (Ok []) e) (sym done_here.1)
-              (gather-none (going.0 - 1) (suc (at / d)) 0 (n - min n (d - at % d)) empty then))
+              let done_here = none-left (going.0 - 1) (next / d) (next % d) left (omega arith) then answer end ran in
+              rw (done_here.0, done_here.1) (gather-none (going.0 - 1) (suc (at / d)) 0 (n - min n (d - at % d)) (omega arith) then)
           | inr long ↦
               let parts = div-add-mod' at d in
               let inside = mod_below at d some in
@@ -247,7 +221,5 @@ module _ {S R : Type 0} (meaning : S → Meaning R) (moves : S → Question → 
               let times : next / d * d ≡ suc (at / d) * d = ap (λ k. k * d) block in
               let skip : next % d ≡ 0 = omega arith in
               let same : left ≡ n - min n (d - at % d) = omega arith in
-              subst (λ b. Ran meaning moves then (gather d (going.0 - 1) b 0 (n - min n (d - at % d))) answer end) block
-              (subst (λ k. Ran meaning moves then (gather d (going.0 - 1) (next / d) k (n - min n (d - at % d))) answer end) skip
-              (subst (λ m. Ran meaning moves then (gather d (going.0 - 1) (next / d) (next % d) m) answer end) same ran))
+              rw (block, skip, same) at ran
         ]

@@ -2,10 +2,8 @@ pub mod Gathering
 pub mod Parting
 pub mod Sums
 pub mod Running
-pub mod Headers
 pub mod Seeking
 pub mod Following
 pub mod Entering
-pub mod Pathing
-pub mod CallRuns
 pub mod Fronts
+pub mod CallRuns

@@ -1,5 +1,5 @@
 -- Parting a path at its slashes, one component at a time.
-use Rattle.std.proofs.Common.{◌≡◌, ◌⊎◌, ℕ, zero, suc, ◌+◌, ◌-◌, ◌≤◌, ltb, Option, None, Some, MatchOption, Bool, true, false, cond, not, eqb, List, [], ◌∷◌, ◌++◌, length, take, drop, refl, sym, ap, ap₂, ◌∙◌, subst, inl, inr, arith, append_assoc}
+use Rattle.std.proofs.Common.{◌≡◌, ℕ, suc, ◌+◌, ◌-◌, ◌≤◌, ltb, Option, None, Some, MatchOption, Bool, true, false, cond, not, eqb, List, [], ◌∷◌, ◌++◌, length, take, drop, refl, sym, ap, ap₂, ◌∙◌, arith, append_assoc}
 use Rattle.std.proofs.lemmas.Bool.{ltb-false, ne_eqb}
 use Rattle.std.proofs.lemmas.List.{append-nil, length-append, length-drop, drop-drop}
 use Rattle.std.proofs.lemmas.List.Sums.{prefix_len-le-length}
@@ -54,15 +54,11 @@ stops at name b bytes =
 
 by_slash : (at : ℕ) (name : List ℕ) (b : ℕ) (bytes : List ℕ) (t : Bool) → is_slash b ≡ t → parts_from at (name ++ b ∷ []) bytes ≡ parted at (name ++ b ∷ []) (position_or_len is_slash bytes) bytes
     → parts_from at name (b ∷ bytes) ≡ parted at name (position_or_len is_slash (b ∷ bytes)) (b ∷ bytes)
-by_slash at name b bytes true is hyp =
-    let n = position_or_len is_slash bytes in
-    let here = record { at = at; name = name } ∷ parts_from (at + length name + 1) [] bytes in
-    subst (λ t. cond t here (parts_from at (name ++ b ∷ []) bytes) ≡ parted at name (cond (not t) (1 + n) 0) (b ∷ bytes)) (sym is) (stops at name b bytes)
+by_slash at name b bytes true is hyp = rw is (stops at name b bytes)
 by_slash at name b bytes false is hyp =
     let n = position_or_len is_slash bytes in
-    let here = record { at = at; name = name } ∷ parts_from (at + length name + 1) [] bytes in
     let more : suc n ≡ 1 + n = omega arith in
-    subst (λ t. cond t here (parts_from at (name ++ b ∷ []) bytes) ≡ parted at name (cond (not t) (1 + n) 0) (b ∷ bytes)) (sym is) (hyp ∙ goes_on at name b bytes n ∙ ap (λ k. parted at name k (b ∷ bytes)) more)
+    rw is (hyp ∙ goes_on at name b bytes n ∙ ap (λ k. parted at name k (b ∷ bytes)) more)
 
 pub parts-at : (at : ℕ) (name bytes : List ℕ) → parts_from at name bytes ≡ parted at name (position_or_len is_slash bytes) bytes
 parts-at at name [] = ap (λ n. record { at = at; name = n } ∷ []) (sym (append-nil name))

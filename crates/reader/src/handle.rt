@@ -1,36 +1,34 @@
-// A file that is open.
-ghost use Rattle.std.specs.Prelude.{◌≡◌, ◌<◌, ◌≤◌, ◌+◌, ◌-◌, true, false, min, nat_lt, MatchOption};
-ghost use Rattle.reader.specs.Calls.{extent_of};
-ghost use Rattle.reader.specs.File.{extent_of as file_extent};
+// Files that are open.
+ghost use Rattle.std.specs.Prelude.{◌≡◌, ◌<◌, ◌+◌, ◌-◌, true, false, min, nat_lt, IfNone, IfSome};
 
-use crate::file::File;
 use volume::Start;
 
-// Where its data stand on the volume. Only `open` makes one, and it cannot be let go: it is handed to `whole` or `close`.
+/// A file that is open: where its data stand on the volume. Only `open` makes one, and it cannot be let go: it is handed to
+/// `whole` or `close`.
 #[derive(PartialEq, Eq, Debug)]
 pub struct Handle {
     pub(crate) start: u32,
     pub(crate) size: u32,
 }
 
-impl Handle {
-    pub(crate) fn from_file(file: File) -> Handle
-        ensures { extent_of result ≡ file_extent file }
-    {
-        Handle {
-            start: file.start,
-            size: file.size,
-        }
-    }
+/// A place in an open file.
+#[derive(Clone, Copy)]
+pub struct Position<'a> {
+    /// The file.
+    pub handle: &'a Handle,
+    /// Bytes from the file's start.
+    pub offset: usize,
+}
 
-    // The offset of its first byte.
+impl Handle {
+    /// The offset of its first byte on the volume.
     pub fn start(&self) -> u32
         ensures { result ≡ self.now.start }
     {
         self.start
     }
 
-    // How many bytes it has.
+    /// How many bytes it has.
     pub fn size(&self) -> u32
         ensures { result ≡ self.now.size }
     {
@@ -45,20 +43,24 @@ impl Handle {
         u64::from(start.size) < u64::from(self.start) + u64::from(self.size)
     }
 
-    // How many bytes there are from an offset on, `n` at most; none is answered behind the end.
-    pub(crate) fn count(&self, f: usize, n: usize) -> Option<usize>
-        ensures value { MatchOption result (nat_lt self.now.size f ≡ true) (λ c. (nat_lt self.now.size f ≡ false) × (c ≡ min n (self.now.size - f))) }
-    {
-        let size = self.size as usize;
-        if size < f {
-            None
-        } else {
-            Some(n.min(size - f))
-        }
-    }
-
     // Ends it.
     pub(crate) fn spend(self) {
         let Handle { start: _, size: _ } = self;
+    }
+}
+
+impl Position<'_> {
+    // How many bytes there are from it on, `n` at most; none is answered behind the end.
+    pub(crate) fn count(&self, n: usize) -> Option<usize>
+        ensures behind { IfNone result (nat_lt self.now.handle.now.size self.now.offset ≡ true) }
+        ensures near { IfSome result (λ c. nat_lt self.now.handle.now.size self.now.offset ≡ false) }
+        ensures value { IfSome result (λ c. c ≡ min n (self.now.handle.now.size - self.now.offset)) }
+    {
+        let size = self.handle.size as usize;
+        if size < self.offset {
+            None
+        } else {
+            Some(n.min(size - self.offset))
+        }
     }
 }

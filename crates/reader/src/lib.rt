@@ -1,16 +1,15 @@
 // The volume's rules over any device.
 #![tactic(auto)]
 
-mod bytes;
-mod calling;
+mod block;
 mod component;
 mod fetch;
-mod file;
+mod front;
 mod handle;
 mod header;
-mod parts;
 mod paths;
 mod reading;
+mod romfs;
 mod sought;
 mod start;
 mod state;
@@ -18,5 +17,5 @@ mod using;
 mod walk;
 mod words;
 
-pub use handle::Handle;
-pub use state::State;
+pub use handle::{Handle, Position};
+pub use state::{Nth, State};

@@ -1,19 +1,30 @@
 // The start of a volume.
 ghost use Rattle.std.specs.Prelude.{◌≡◌, ◌<◌, ◌≤◌, ◌||◌, not, nat_lt, IfSome, length, take};
-ghost use Rattle.device.specs.Run.{Ran};
-ghost use Rattle.volume.specs.Fetches.{by_blocks};
+ghost use Rattle.geometry.specs.Of.{shape_of};
+ghost use Rattle.calls.specs.Mount.{image_length};
+ghost use Rattle.volume.specs.Sizes.{name_size};
 ghost use Rattle.volume.specs.Start.{magic, root_of, start as start_rules, start_of};
 ghost use Rattle.volume.specs.Words.{is_16};
 ghost use Rattle.std.specs.Str.{bytes_eq};
+ghost use Rattle.reader.specs.Fetched.{Fetched};
 
+use crate::block::BlockSize;
 use crate::fetch::fetch_at;
 use crate::words::{is_16, sums_to_zero, word, zero_at};
 use device::Device;
-use volume::{Start, VolumeFault, VolumeRule};
+use geometry::Geometry;
+use volume::{NAME_SIZE, Start, VolumeFault, VolumeRule};
+
+// Bytes of the image.
+pub(crate) fn image_size(geometry: &Geometry) -> usize
+    ensures { result ≡ image_length (shape_of geometry.now) }
+{
+    geometry.blocks() * geometry.data_block()
+}
 
 // By where the volume name's zero byte stands: the first header stands behind the padded name.
 fn root_of<F>(size: u32, name: Option<usize>) -> Result<Start, VolumeFault<F>>
-    requires { IfSome name (λ v. v < 128) }
+    requires { IfSome name (λ v. v < name_size) }
     ensures { result ≡ root_of size name }
 {
     if let Some(before) = name {
@@ -67,20 +78,18 @@ fn start_of<F>(limit: usize, bytes: &[u8]) -> Result<Start, VolumeFault<F>>
     if !sums_to_zero(&bytes[..(size as usize).min(512)]) {
         return Err(VolumeFault::Rule(12, VolumeRule::Sum));
     }
-    root_of(size, zero_at(&bytes[16..144]))
+    root_of(size, zero_at(&bytes[16..16 + NAME_SIZE]))
 }
 
 // The start of the volume on an image of `limit` bytes.
 pub(crate) fn read_start<D: Device>(
     store: &mut D,
-    data_block: usize,
+    block: BlockSize,
     limit: usize,
 ) -> Result<Start, VolumeFault<D::Refusal>>
-    requires some { 0 < data_block }
-    requires long { data_block ≤ 4096 }
-    ensures { Ran D.meaning D.moves store.old (by_blocks data_block (start_rules limit)) result store.new }
+    ensures { Fetched D.meaning D.moves block.bytes store.old (start_rules limit) result store.new }
 {
     let mut bytes = [0; 512];
-    fetch_at(store, data_block, 0, &mut bytes)?;
+    fetch_at(store, block, 0, &mut bytes)?;
     start_of(limit, &bytes)
 }

@@ -1,17 +1,21 @@
 // Headers in use: directories that are entered, and links that are followed to a file.
-ghost use Rattle.std.specs.Prelude.{◌≡◌, ◌<◌, ◌≤◌, ◌+◌, true, false, nat_lt, MatchOption};
-ghost use Rattle.device.specs.Run.{Ran};
-ghost use Rattle.reader.specs.Header.{header_value};
-ghost use Rattle.reader.specs.File.{file_of};
-ghost use Rattle.volume.specs.Fetches.{by_blocks, settled};
-ghost use Rattle.volume.specs.Use.{broken as broken_rule, enter as enter_rules, file as file_rules, follow as follow_rules};
+ghost use Rattle.std.specs.Prelude.{◌≡◌, ◌<◌, ◌+◌, true, false, nat_lt, MatchOption};
+ghost use Rattle.reader.specs.Fetched.{Reads};
+ghost use Rattle.reader.specs.Header.{header_value, leads_to};
+ghost use Rattle.reader.specs.Calls.{file_of};
+ghost use Rattle.volume.specs.Fetches.{settled};
+ghost use Rattle.volume.specs.Use.{broken as broken_rule, enter as enter_rules, file as file_rules};
 
-use crate::file::File;
+use crate::handle::Handle;
 use crate::header::Header;
 use crate::reading::header_for;
+use crate::romfs::Romfs;
 use crate::words::is_16;
 use device::Device;
 use volume::{Kind, PathFault, PathRule, Start, VolumeFault, VolumeRule};
+
+// How many links in a row are followed.
+const LINKS: u8 = 8;
 
 // A rule that a header breaks, while the component at this place is sought or used.
 fn broken<F>(place: usize, header: &Header, rule: VolumeRule) -> PathFault<F>
@@ -35,9 +39,9 @@ pub(crate) fn enter<F>(place: usize, header: &Header) -> Result<u32, PathFault<F
 }
 
 // The offset of so many bytes, if they end within the volume.
-fn within(start: &Start, from: u64, size: u32) -> Option<u32>
+fn within(start: Start, from: u64, size: u32) -> Option<u32>
     requires { from < 8589934592 }
-    ensures { MatchOption result (nat_lt start.now.size (from + size) ≡ true) (λ at. (at ≡ from) × (nat_lt start.now.size (from + size) ≡ false)) }
+    ensures { let past = nat_lt start.size (from + size) in MatchOption result (past ≡ true) (λ at. (at ≡ from) × (past ≡ false)) }
 {
     if u64::from(start.size) < from + u64::from(size) {
         None
@@ -47,8 +51,8 @@ fn within(start: &Start, from: u64, size: u32) -> Option<u32>
 }
 
 // The data of a regular file.
-fn file<F>(start: &Start, place: usize, header: &Header) -> Result<File, PathFault<F>>
-    ensures { settled (file_of result) ≡ file_rules start.now place (header_value header.now) }
+fn file<F>(start: Start, place: usize, header: &Header) -> Result<Handle, PathFault<F>>
+    ensures { settled (file_of result) ≡ file_rules start place (header_value header.now) }
 {
     if header.info != 0 {
         return Err(broken(place, header, VolumeRule::Info));
@@ -56,38 +60,35 @@ fn file<F>(start: &Start, place: usize, header: &Header) -> Result<File, PathFau
     let data = u64::from(header.at) + u64::from(header.length);
     let size = header.entry.size;
     match within(start, data, size) {
-        Some(start) => Ok(File { start, size }),
+        Some(start) => Ok(Handle { start, size }),
         None => Err(broken(place, header, VolumeRule::Data)),
     }
 }
 
-// The file that the last component of a path leads to, through so many links at most.
+// The file that the last component of a path leads to, once so many links were followed.
+#[tactic(auto, using(crate::proofs::Following::follow_is))]
 pub(crate) fn follow<D: Device>(
     store: &mut D,
-    data_block: usize,
-    start: &Start,
+    romfs: Romfs,
     place: usize,
-    left: u8,
-    linked: bool,
+    links: u8,
     header: &Header,
-) -> Result<File, PathFault<D::Refusal>>
-    requires some { 0 < data_block }
-    requires long { data_block ≤ 4096 }
-    ensures { Ran D.meaning D.moves store.old (by_blocks data_block (follow_rules start.now place left linked (header_value header.now))) (file_of result) store.new }
+) -> Result<Handle, PathFault<D::Refusal>>
+    ensures { Reads D.meaning D.moves romfs store.old (λ v. leads_to v place links (header_value header.now)) (file_of result) store.new }
 {
     match header.entry.kind {
-        Kind::File => file(start, place, header),
+        Kind::File => file(romfs.start, place, header),
         Kind::HardLink => {
             if !is_16(header.info) {
                 return Err(broken(place, header, VolumeRule::Info));
             }
-            if left == 0 {
+            if links >= LINKS {
                 return Err(broken(place, header, VolumeRule::Links));
             }
-            let next = header_for(store, data_block, start, place, header.info)?;
-            follow(store, data_block, start, place, left - 1, true, &next)
+            let next = header_for(store, romfs, place, header.info)?;
+            follow(store, romfs, place, links + 1, &next)
         }
-        Kind::Directory if linked => Err(broken(place, header, VolumeRule::LinkedDirectory)),
+        Kind::Directory if links > 0 => Err(broken(place, header, VolumeRule::LinkedDirectory)),
         _ => Err(PathFault::Rule(place, PathRule::NotFile)),
     }
 }

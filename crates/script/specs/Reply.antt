@@ -5,9 +5,9 @@ use Rattle.std.specs.Fmt.{decimal}
 use Rattle.text.specs.Hex.{hex_of}
 use Rattle.layers.specs.declared.fault.StorageFault.{StorageFault}
 use Rattle.volume.specs.declared.types.Entry.{Entry}
+use Rattle.volume.specs.Letter.{letter_of}
 use Rattle.calls.specs.declared.refusal.Refusal.{Refusal}
 use Rattle.script.specs.Code.{code_text}
-use Rattle.script.specs.Letter.{letter_of}
 use Rattle.script.specs.Name.{name_text}
 use Rattle.script.specs.declared.bottom.Bottom.{Bottom}
 use Rattle.script.specs.declared.name.Name.{Name}

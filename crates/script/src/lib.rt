@@ -4,7 +4,6 @@
 mod bottom;
 mod call;
 mod code;
-mod letters;
 mod name;
 mod reply;
 #[cfg(test)]
@@ -13,6 +12,5 @@ mod tests;
 pub use bottom::{Bottom, BottomRefusal};
 pub use call::{Call, PathWord};
 pub use code::Code;
-pub use letters::{executable_letter, letter};
 pub use name::Name;
 pub use reply::Reply;

@@ -5,7 +5,6 @@ ghost use Rattle.script.specs.Reply.{listed_text, reply_text};
 
 use crate::bottom::BottomRefusal;
 use crate::code::Code;
-use crate::letters::{executable_letter, letter};
 use crate::name::Name;
 use calls::Refusal;
 use layers::StorageFault;
@@ -81,8 +80,8 @@ impl<R: BottomRefusal> fmt::Display for Reply<'_, R> {
 fn write_entry<W: fmt::Write>(f: &mut fmt::Formatter<W>, entry: &Entry, buf: &[u8]) -> fmt::Result
     ensures { WritesOnOk W.write_str_gives f.old result (listed_text entry.now buf.now) f.new }
 {
-    let kind = letter(entry.kind);
-    let executable = executable_letter(entry.executable);
+    let kind = entry.kind.letter();
+    let executable = entry.executable_letter();
     let size = entry.size;
     write!(f, "list ok {kind} {executable} {size} {}", Digits(buf))
 }

@@ -8,6 +8,7 @@ use Rattle.volume.specs.declared.types.Entry.{Entry}
 use Rattle.volume.specs.declared.fault.VolumeRule.TheVariants.{Range, Name, HeaderSum, Next}
 use Rattle.volume.specs.declared.fault.VolumeFault.{VolumeFault}
 use Rattle.volume.specs.declared.fault.VolumeFault.TheVariants.{Rule, Storage}
+use Rattle.volume.specs.Sizes.{header_size}
 use Rattle.volume.specs.Words.{word, sums_to_zero, up_to_16, zero_at}
 use Rattle.volume.specs.Fetches.{Fetches, refuse, fetch, settled}
 
@@ -61,4 +62,4 @@ header_of at bytes = named at bytes (zero_at (drop 16 bytes))
 unfoldable pub header : {F : Type 0} → Start → ℕ → Fetches F (VolumeFault F) Header
 header start at =
     cond (nat_lt at start.root || nat_lt start.size (at + 32)) (refuse (Rule at Range))
-    (fetch at (min (at + 144) start.size - at) (λ fault. Storage at fault) (λ bytes. settled (header_of at bytes)))
+    (fetch at (min (at + header_size) start.size - at) (λ fault. Storage at fault) (λ bytes. settled (header_of at bytes)))

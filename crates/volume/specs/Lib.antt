@@ -1,3 +1,5 @@
+pub mod Sizes
+pub mod Letter
 pub mod Fault
 pub mod Sentence
 pub mod Fetches

@@ -6,6 +6,7 @@ use Rattle.volume.specs.declared.types.Start.{Start}
 use Rattle.volume.specs.declared.fault.VolumeRule.TheVariants.{Text, Size, Sum, VolumeName}
 use Rattle.volume.specs.declared.fault.VolumeFault.{VolumeFault}
 use Rattle.volume.specs.declared.fault.VolumeFault.TheVariants.{Rule, Storage}
+use Rattle.volume.specs.Sizes.{name_size}
 use Rattle.volume.specs.Words.{word, sums_to_zero, up_to_16, is_16, zero_at}
 use Rattle.volume.specs.Fetches.{Fetches, fetch, settled}
 
@@ -24,7 +25,7 @@ start_of limit bytes =
     let size = word bytes 8 in
     cond (not (bytes_eq (take 8 bytes) magic)) (Err (Rule 0 Text))
     (cond (not (is_16 size) || nat_lt limit size) (Err (Rule 8 Size))
-    (cond (not (sums_to_zero (take (min 512 size) bytes))) (Err (Rule 12 Sum)) (root_of size (zero_at (take 128 (drop 16 bytes))))))
+    (cond (not (sums_to_zero (take (min 512 size) bytes))) (Err (Rule 12 Sum)) (root_of size (zero_at (take name_size (drop 16 bytes))))))
 
 -- they are fetched whole, even if the volume is smaller
 unfoldable pub start : {F : Type 0} → ℕ → Fetches F (VolumeFault F) Start

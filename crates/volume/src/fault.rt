@@ -7,32 +7,32 @@ ghost use Rattle.volume.specs.Sentence.{path_fault_text, path_rule_text, path_se
 
 use std::fmt;
 
-// The rules that a volume can break.
+/// The rules that a volume can break.
 #[derive(Clone, Copy, PartialEq, Eq, Debug, Drop)]
 pub enum VolumeRule {
-    // The text at the start.
+    /// The text at the start.
     Text = 20,
-    // The full size.
+    /// The full size.
     Size = 21,
-    // The words of the start do not sum to zero.
+    /// The words of the start do not sum to zero.
     Sum = 22,
-    // The volume's name has no end, or leaves no room for a header.
+    /// The volume's name has no end, or leaves no room for a header.
     VolumeName = 23,
-    // A header outside the volume.
+    /// A header outside the volume.
     Range = 30,
-    // A header's name.
+    /// A header's name.
     Name = 31,
-    // The words of a header do not sum to zero.
+    /// The words of a header do not sum to zero.
     HeaderSum = 32,
-    // The header after this one does not lie behind it.
+    /// The header after this one does not lie behind it.
     Next = 33,
-    // The info of a link, a directory or a file.
+    /// The info of a link, a directory or a file.
     Info = 34,
-    // A file's data reach past the volume's end.
+    /// A file's data reach past the volume's end.
     Data = 35,
-    // More links in a row than are followed.
+    /// More links in a row than are followed.
     Links = 36,
-    // A link that leads to a directory.
+    /// A link that leads to a directory.
     LinkedDirectory = 37,
 }
 
@@ -74,11 +74,12 @@ impl fmt::Display for VolumeRule {
     }
 }
 
+/// Why a volume was refused.
 #[derive(Clone, Copy, PartialEq, Eq, Debug, Drop)]
 pub enum VolumeFault<F> {
-    // A rule that is broken at this offset.
+    /// A rule that is broken at this offset.
     Rule(u32, VolumeRule),
-    // The device refused the fetch that begins at this offset.
+    /// The device refused the fetch that begins at this offset.
     Storage(u32, F),
 }
 
@@ -104,16 +105,16 @@ impl<F: fmt::Display> fmt::Display for VolumeFault<F> {
     }
 }
 
-// The rules that a path can break.
+/// The rules that a path can break.
 #[derive(Clone, Copy, PartialEq, Eq, Debug, Drop)]
 pub enum PathRule {
-    // An empty component, `.` or `..`, or no component where one is wanted.
+    /// An empty component, `.` or `..`, or no component where one is wanted.
     Component = 40,
-    // No such entry.
+    /// No such entry.
     Missing = 41,
-    // Not a directory.
+    /// Not a directory.
     NotDirectory = 42,
-    // Not a regular file.
+    /// Not a regular file.
     NotFile = 43,
 }
 
@@ -145,11 +146,12 @@ impl fmt::Display for PathRule {
     }
 }
 
+/// Why a path was refused.
 #[derive(Clone, Copy, PartialEq, Eq, Debug, Drop)]
 pub enum PathFault<F> {
-    // A rule that is broken by the component at this offset of the path.
+    /// A rule that is broken by the component at this offset of the path.
     Rule(usize, PathRule),
-    // The volume is refused while this component is sought or used.
+    /// The volume is refused while this component is sought or used.
     Volume(usize, VolumeFault<F>),
 }
 

@@ -7,4 +7,4 @@ mod types;
 
 pub use fault::{PathFault, PathRule, VolumeFault, VolumeRule};
 pub use laws::steps_suffice;
-pub use types::{Entry, Kind, Start};
+pub use types::{Entry, HEADER_SIZE, Kind, NAME_SIZE, Start};

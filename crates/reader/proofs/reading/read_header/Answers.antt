@@ -1,32 +1,30 @@
-use Rattle.std.proofs.Common.{◌≡◌, ℕ, ◌+◌, ◌-◌, min, take, replicate, length, sym, ◌∙◌, subst, arith}
+use Rattle.std.proofs.Common.{◌≡◌, ℕ, ◌+◌, ◌-◌, ◌≤◌, min, Ok, Err, take, replicate, length, sym, ◌∙◌, arith}
 use Rattle.std.proofs.lemmas.List.{length-take, length-replicate}
-use Rattle.device.specs.Run.{Ran}
-use Rattle.volume.specs.Fetches.{by_blocks}
-use Rattle.volume.specs.Header.{header}
-use Rattle.reader.specs.Header.{read_of}
-use Rattle.reader.proofs.Running.{err-is}
-use Rattle.reader.proofs.Headers.{header-outside, header-read, header-unread}
+use Rattle.volume.specs.Header.{header, header_of}
+use Rattle.reader.proofs.Running.{err-is, ran-parsed}
 use Rattle.reader.proofs.reading.read_header.Goals as goal
 
-pub returns-then-is_outside-clause-run : goal.returns-then-is_outside-clause-run
-returns-then-is_outside-clause-run g c =
-    header-outside g.D.Device.meaning g.D.Device.moves c.args.data_block c.args.start.now c.args.at c.args.store.now (sym c.is_outside.ensures.value ∙ c.if-is_outside.true)
-
-pub fetch_at-requires-clause-room : goal.fetch_at-requires-clause-room
-fetch_at-requires-clause-room g c = omega (arith, c.header_size.ensures.room, length-take {A = ℕ} c.header_size.result (replicate 144 0), length-replicate {A = ℕ} 144 0)
+-- as many bytes as are fetched
+sliced : (n m : ℕ) → n ≤ 144 → n ≡ m → length {A = ℕ} (take n (replicate 144 0)) ≡ m
+sliced n m few is = omega (arith, length-take {A = ℕ} n (replicate 144 0), length-replicate {A = ℕ} 144 0)
 
 pub returns-in_err-fetch_at-clause-run : goal.returns-in_err-fetch_at-clause-run
+unfolding header
 returns-in_err-fetch_at-clause-run g c =
+    let a = c.args in
+    let n = c.fetch_size.result in
+    let m = min (a.at + 144) a.romfs.start.size - a.at in
     let fault = c.in_err-fetch_at.field-0.0 in
-    let inside = sym c.is_outside.ensures.value ∙ c.if-is_outside.false in
-    let n = length {A = ℕ} (take c.header_size.result (replicate 144 0)) in
-    let long : n ≡ min (c.args.at + 144) c.args.start.now.size - c.args.at = omega (arith, c.header_size.ensures, length-take {A = ℕ} c.header_size.result (replicate 144 0), length-replicate {A = ℕ} 144 0) in
-    subst (λ r. Ran g.D.Device.meaning g.D.Device.moves c.args.store.now (by_blocks c.args.data_block (header c.args.start.now c.args.at)) (read_of r) c.fetch_at.new.store) (sym (err-is c.from_residual.result fault c.from_residual.ensures))
-    (header-unread g.D.Device.meaning g.D.Device.moves c.args.data_block c.args.start.now c.args.at c.args.store.now inside n long c.fetch_at.new.store fault c.in_err-fetch_at.ensures.run)
+    rw (err-is c.from_residual.result fault c.from_residual.ensures, sym c.is_outside.ensures.value ∙ c.if-is_outside.false)
+    (ran-parsed g.D.Device.meaning g.D.Device.moves a.romfs.block.bytes a.at m (length {A = ℕ} (take n (replicate 144 0))) (sliced n m c.fetch_size.ensures.few c.fetch_size.ensures.value) (header_of a.at) a.store.now c.fetch_at.new.store (Err fault)
+    c.in_err-fetch_at.ensures.run)
 
 pub returns-clause-run : goal.returns-clause-run
+unfolding header
 returns-clause-run g c =
-    let inside = sym c.is_outside.ensures.value ∙ c.if-is_outside.false in
-    let n = length {A = ℕ} (take c.header_size.result (replicate 144 0)) in
-    let long : n ≡ min (c.args.at + 144) c.args.start.now.size - c.args.at = omega (arith, c.header_size.ensures, length-take {A = ℕ} c.header_size.result (replicate 144 0), length-replicate {A = ℕ} 144 0) in
-    header-read g.D.Device.meaning g.D.Device.moves c.args.data_block c.args.start.now c.args.at c.args.store.now inside n long c.fetch_at.new.store c.fetch_at.new.buf (read_of c.header_of.result) c.in_ok-fetch_at.ensures.run c.header_of.ensures.value
+    let a = c.args in
+    let n = c.fetch_size.result in
+    let m = min (a.at + 144) a.romfs.start.size - a.at in
+    rw (sym c.is_outside.ensures.value ∙ c.if-is_outside.false, c.from_bytes.ensures.value)
+    (ran-parsed g.D.Device.meaning g.D.Device.moves a.romfs.block.bytes a.at m (length {A = ℕ} (take n (replicate 144 0))) (sliced n m c.fetch_size.ensures.few c.fetch_size.ensures.value) (header_of a.at) a.store.now c.fetch_at.new.store (Ok c.fetch_at.new.buf)
+    c.in_ok-fetch_at.ensures.run)

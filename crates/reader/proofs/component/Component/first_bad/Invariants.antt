@@ -1,9 +1,8 @@
-use Rattle.std.proofs.Common.{◌≡◌, ◌-◌, length, Option, None, Some, suc}
+use Rattle.std.proofs.Common.{◌≡◌}
 use Rattle.volume.specs.Paths.{first_bad, parts}
 use Rattle.reader.specs.Parts.{parts_of}
-use Rattle.reader.specs.declared.component.Component.{Component}
 use Rattle.reader.proofs.Parting.{left}
-use Rattle.reader.proofs.parts.first_bad.Given as goal
+use Rattle.reader.proofs.component.Component.first_bad.Given as goal
 
 abbrev pub invariant-loop-part : goal.invariant-loop-part
 invariant-loop-part l = first_bad (parts l.path) ≡ first_bad (parts_of l.part)
