@@ -1,8 +1,5 @@
-pub mod Ready
 pub mod Joins
 pub mod Rows
-pub mod Climb
-pub mod Upper
-pub mod OverDigests
-pub mod Hashing
 pub mod Over
+pub mod Steps
+pub mod Digests

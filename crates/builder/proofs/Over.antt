@@ -1,220 +1,138 @@
--- What the checks of a base give, and the tree over it.
-use Rattle.std.proofs.Common.{◌≡◌, ℕ, ◌+◌, ◌-◌, ◌*◌, ◌/◌, ◌^◌, ◌<◌, ◌≤◌, true, cond, ◌&&◌, nat_le, Ok, Err, List, ◌++◌, length, replicate, sym, ap, ◌∙◌, ap₂, subst, inl, inr, mul-le-mul_right, mul_assoc, arith}
-use native.Mathlib.Nat.{mul-div_cancel, div-add-mod', pow-zero}
-use Rattle.std.specs.Bool.{◌==◌}
-use Rattle.std.specs.List.{range_with_len, flat_map}
-use Rattle.std.proofs.lemmas.List.{append-nil, length-append, length-replicate, nil_from_length}
-use Rattle.std.proofs.lemmas.Bool.{cond-true, and_parts, and_from, cases_lt, eqb-true, eq-eqb, leb-true, le-leb}
-use Rattle.geometry.specs.Limits.{shape, is_block_size, is_count, is_slot, within}
-use Rattle.geometry.proofs.Bounds.{bounds, blocks_none, blocks_some}
-use Rattle.geometry.proofs.Counting.{rounded_le}
-use Rattle.tree.specs.Shape.{Shape, fanout, levels, width, tree_blocks, start}
-use Rattle.tree.specs.Tree.{block_of, salted, node, level, lowest, tree, root}
+-- The numbers of the levels from one up.
+use Rattle.std.proofs.Common.{◌≡◌, ℕ, zero, suc, ◌+◌, ◌-◌, ◌*◌, ◌^◌, ◌<◌, ◌≤◌, true, List, [], length, take, drop, replicate, refl, sym, ap, ap₂, ◌∙◌, subst, inl, inr, add-zero, add-one, add-suc, arith}
+use Rattle.std.proofs.lemmas.Nat.{pow-add}
+use Rattle.std.proofs.lemmas.List.{length-replicate, drop-replicate, take-replicate}
+use Rattle.std.proofs.lemmas.Bool.{cases_lt}
+use Rattle.geometry.proofs.Bounds.{bounds, bounds_of}
+use Rattle.geometry.proofs.Counting.{least_is}
+use Rattle.geometry.proofs.Trees.{sound_salted}
+use Rattle.geometry.specs.declared.geometry.Geometry.{Geometry}
+use Rattle.geometry.specs.Limits.{shape, within}
+use Rattle.geometry.specs.Of.{shape_of}
+use Rattle.tree.specs.Shape.{Shape, fanout, levels, width, blocks_from, tree_blocks, start}
 use Rattle.tree.specs.Laws.{Sound}
 use Rattle.tree.proofs.Levels.{levels_stand_lem}
-use Rattle.tree.proofs.Pieces.{length_pieces}
-use Rattle.tree.proofs.Widths.{power_pos, width_zero}
-use Rattle.builder.specs.declared.fault.BuildFault.TheVariants.{Limit, Length}
-use Rattle.builder.specs.Build.{shape_for, limits_met, lengths_fit, accepts, answer, tree_after, root_after}
-use Rattle.builder.specs.InParts.{shape_above, above_limits_met, above_fits, above_accepts, above_answer, level_zero, upper, tree_above, root_above, tree_above_after, root_above_after}
-use Rattle.builder.specs.Ready.{Ready}
-use Rattle.builder.specs.Parts.{level_len}
-use Rattle.geometry.proofs.Trees.{sound_salted}
-use Rattle.builder.proofs.Rows.{wide_enough, digests_level}
-use Rattle.builder.proofs.OverDigests.{one_block, more_blocks, without_tree, without_root, with_tree, with_root}
-use Rattle.builder.proofs.Upper.{to_one, start_up}
+use Rattle.tree.proofs.Widths.{in_width, under_width, width_zero}
+use Rattle.builder.specs.declared.job.Job.{Job}
+use Rattle.builder.specs.Parts.{IsRow, block_len, hash_by, over, tree_len}
 
--- level 0 has no more blocks than the data
-narrower : (s : Shape) → 0 < fanout s → 1 ≤ s.blocks → width s 1 ≤ s.blocks
-unfolding width
-narrower s wide some = rounded_le s.blocks (fanout s ^ 1) some (power_pos s wide 1)
+-- a buffer, cut where level i starts
+pub record Cut (s : Shape) (i at : ℕ) (buf : List ℕ) : Type 0 where
+  pub inside : at ≤ length buf
+  pub front : take at buf ≡ replicate (tree_len (over s (i + 1))) 0
+  pub back : drop at buf ≡ replicate (width s (i + 1) * s.hash_block) 0
 
--- the numbers of an accepted base
-pub record Known (meaning : List ℕ → List ℕ) (size d e : ℕ) (digests salt for_tree for_root : List ℕ) (s : Shape) : Type 0 where
-  pub shaped : s ≡ shape_above size d e digests
-  pub limits : within s ≡ true
-  pub short : length salt ≤ 256
-  pub sound : Sound (salted meaning salt) s size
-  pub whole : length digests ≡ s.blocks * size
-  pub tree_room : length for_tree ≡ tree_blocks s * s.hash_block
-  pub root_room : length for_root ≡ size
-  pub accepted : above_answer size d e digests salt for_tree for_root ≡ Ok tt
-  pub passed : above_accepts size d e digests salt for_tree for_root ≡ true
+module _ (s : Shape) (wide : 2 ≤ fanout s) where
+  positive : 0 < fanout s
+  positive = omega (arith, wide)
 
-pub known_of : (meaning : List ℕ → List ℕ) (size n d e : ℕ) (digests salt for_tree for_root old_tree old_root : List ℕ) (s : Shape) → ((m : List ℕ) → length (meaning m) ≡ size) → n ≡ size
-    → length for_tree ≡ length old_tree → length for_root ≡ length old_root
-    → above_limits_met n d e digests salt ≡ true → above_fits (shape_above n d e digests) digests for_tree for_root ≡ true → s ≡ shape_above n d e digests
-    → Known meaning size d e digests salt old_tree old_root s
-known_of meaning size n d e digests salt for_tree for_root old_tree old_root s sized is same_tree same_root limits fits shaped =
-    let t = shape_above n d e digests in
-    let met = and_parts (within t) (nat_le (length salt) 256) limits in
-    let fit = subst (λ k. ((length digests == t.blocks * t.slot) && k == tree_blocks t * t.hash_block && length old_root == t.slot) ≡ true) same_tree
-    (subst (λ k. ((length digests == t.blocks * t.slot) && length for_tree == tree_blocks t * t.hash_block && k == t.slot) ≡ true) same_root fits) in
-    let both = and_parts ((length digests == t.blocks * t.slot) && length old_tree == tree_blocks t * t.hash_block) (length old_root == t.slot) fit in
-    let parts = and_parts (length digests == t.blocks * t.slot) (length old_tree == tree_blocks t * t.hash_block) both.0 in
-    let ok : above_answer n d e digests salt old_tree old_root ≡ Ok tt = cond-true (above_limits_met n d e digests salt) (cond (above_fits t digests old_tree old_root) (Ok tt) (Err Length)) (Err Limit) limits
-    ∙ cond-true (above_fits t digests old_tree old_root) (Ok tt) (Err Length) fit in
-    let all : Known meaning size d e digests salt old_tree old_root t = record {
-      shaped = ap (λ k. shape_above k d e digests) is;
-      limits = met.0;
-      short = leb-true (length salt) 256 met.1;
-      sound = sound_salted meaning salt t size sized met.0 is;
-      whole = eqb-true (length digests) (t.blocks * t.slot) parts.0 ∙ ap (λ k. t.blocks * k) is;
-      tree_room = eqb-true (length old_tree) (tree_blocks t * t.hash_block) parts.1;
-      root_room = eqb-true (length old_root) t.slot both.1 ∙ is;
-      accepted = subst (λ k. above_answer k d e digests salt old_tree old_root ≡ Ok tt) is ok;
-      passed = subst (λ k. above_accepts k d e digests salt old_tree old_root ≡ true) is (and_from (above_limits_met n d e digests salt) (above_fits t digests old_tree old_root) limits fit);
-    } in
-    subst (Known meaning size d e digests salt old_tree old_root) (sym shaped) all
+  -- block j, k steps above those i steps above the data
+  far : (i k j : ℕ) → j * fanout s ^ (i + k) ≡ j * fanout s ^ k * fanout s ^ i
+  far i k j = ap (λ p. j * p) (pow-add (fanout s) i k) ∙ omega arith
 
-module _ {meaning : List ℕ → List ℕ} {size d e : ℕ} {digests salt for_tree for_root : List ℕ} {s : Shape} (known : Known meaning size d e digests salt for_tree for_root s) where
-  abbrev h : List ℕ → List ℕ
-  h = salted meaning salt
+  to : (i k j : ℕ) → j < width s (i + k) → j < width (over s i) k
+  to i k j h = in_width (over s i) positive k j (in_width s positive i (j * fanout s ^ k) (omega (arith, far i k j, under_width s positive (i + k) j h)))
 
-  slot : size ≡ s.slot
-  slot = sym (ap (λ u. u.slot) known.shaped)
+  from : (i k j : ℕ) → j < width (over s i) k → j < width s (i + k)
+  from i k j h = in_width s positive (i + k) j (omega (arith, far i k j, under_width s positive i (j * fanout s ^ k) (under_width (over s i) positive k j h)))
 
-  some : 0 < size
-  some =
-      let known_bounds = bounds s known.limits in
-      elim (cases_lt 0 size) [
-        | inl more ↦ more
-        | inr none ↦
-            let zero_slot : s.slot ≡ 0 = omega (arith, slot, none) in
-            let zero_block : fanout s * s.slot ≡ 0 = ap (λ k. fanout s * k) zero_slot ∙ omega arith in
-            absurd (omega (arith, known.sound.filled, zero_block, known_bounds.hash_low))
+  pub width_over : (i k : ℕ) → width (over s i) k ≡ width s (i + k)
+  width_over i k =
+      let a = width (over s i) k in
+      let b = width s (i + k) in
+      elim (cases_lt a b) [
+        | inl less ↦ absurd (omega (arith, to i k a less))
+        | inr low ↦ elim (cases_lt b a) [ inl less ↦ absurd (omega (arith, from i k b less)) | inr high ↦ omega arith ]
       ]
 
-  -- what one digest gives
-  pub one_digest : levels s ≡ 0 → length digests ≡ length for_root
-  one_digest none = known.whole ∙ ap (λ k. k * size) (one_block s known.sound.wide known.sound.some none) ∙ omega (arith, known.root_room)
+  pub levels_over : (i : ℕ) → i ≤ levels s → levels (over s i) ≡ levels s - i
+  levels_over i low =
+      let f = fanout s in
+      let r = levels s - i in
+      let law = levels_stand_lem f s.blocks wide in
+      let whole : f ^ levels s ≡ f ^ r * f ^ i = ap (λ k. f ^ k) (let e : levels s ≡ r + i = omega arith in e) ∙ pow-add f r i in
+      let enough : width s i ≤ f ^ r = elim (cases_lt (f ^ r) (width s i)) [
+        | inl less ↦ absurd (omega (arith, under_width s positive i (f ^ r) less, whole, law.0))
+        | inr past ↦ past
+      ] in
+      sym (least_is f (width s i) r wide enough (λ m less. in_width s positive i (f ^ m) (omega (arith, law.1 (m + i) (omega arith), pow-add f m i))))
 
-  -- what is cut off for level 0
-  cut : (levels s ≡ 0 → ⊥) → start s 0 * s.hash_block + width s 1 * s.hash_block ≡ length for_tree
-  cut more = omega (arith, ap (λ k. k * s.hash_block) (blocks_some s more), known.tree_room)
+  pub blocks_over : (i k n : ℕ) → blocks_from (over s i) k n ≡ blocks_from s (i + k) n
+  unfolding blocks_from
+  blocks_over i k zero = refl
+  blocks_over i k (suc n) =
+      ap₂ (λ x y. x + y) (width_over i (suc k) ∙ ap (width s) (add-suc i k)) (blocks_over i (suc k) n ∙ ap (λ m. blocks_from s m n) (add-suc i k))
 
-  pub cut_inside : (levels s ≡ 0 → ⊥) → {first bytes : ℕ} → first ≡ start s 0 → bytes ≡ s.hash_block → first * bytes ≤ length for_tree
-  cut_inside more {first = first} {bytes = bytes} at is =
-      let same : first * bytes ≡ start s 0 * s.hash_block = ap₂ (λ x y. x * y) at is in
-      omega (arith, same, cut more)
+  -- a step more
+  pub over_over : (i : ℕ) → over (over s i) 1 ≡ over s (i + 1)
+  over_over i = ap (λ w. shape s.hash_block s.hash_block w s.slot) (width_over i 1) ∙ ap (λ b. shape b s.hash_block (width s (i + 1)) s.slot) (sym (ap (block_len s) (add-one i)))
 
-  pub cut_rest : (levels s ≡ 0 → ⊥) → {first bytes n : ℕ} → first ≡ start s 0 → bytes ≡ s.hash_block → n ≡ length for_tree - first * bytes → n ≡ width s 1 * s.hash_block
-  cut_rest more {first = first} {bytes = bytes} at is rest =
-      let same : first * bytes ≡ start s 0 * s.hash_block = ap₂ (λ x y. x * y) at is in
-      omega (arith, same, rest, cut more)
+  tree_over : (i : ℕ) → i ≤ levels s → tree_blocks (over s i) ≡ blocks_from s i (levels s - i)
+  tree_over i low = blocks_over i 0 (levels (over s i)) ∙ ap₂ (blocks_from s) (add-zero i) (levels_over i low)
 
-  -- the digests fit level 0
-  pub digests_room : length digests ≤ width s 1 * s.hash_block
-  digests_room =
-      let positive : 0 < fanout s = omega (arith, known.sound.wide) in
-      let enough = wide_enough s positive 0 in
-      let room : width s 0 * s.slot ≤ width s 1 * fanout s * s.slot = mul-le-mul_right s.slot enough in
-      let same : width s 1 * fanout s * s.slot ≡ width s 1 * s.hash_block = mul_assoc (width s 1) (fanout s) s.slot ∙ ap (λ k. width s 1 * k) known.sound.filled in
-      let long : length digests ≡ width s 0 * s.slot = known.whole ∙ ap₂ (λ x y. x * y) (sym (width_zero s positive)) slot in
-      omega (arith, room, same, long)
-
-  upper_within : within (upper s) ≡ true
-  upper_within =
-      let b = bounds s known.limits in
-      let w = width s 1 in
-      let x = and_parts (is_block_size s.data_block && is_block_size s.hash_block && is_count s.blocks) (is_slot s.slot) known.limits in
-      let y = and_parts (is_block_size s.data_block && is_block_size s.hash_block) (is_count s.blocks) x.0 in
-      let z = and_parts (is_block_size s.data_block) (is_block_size s.hash_block) y.0 in
-      let positive : 0 < fanout s = omega (arith, known.sound.wide) in
-      let low : 1 ≤ w = to_one s known.sound.wide 0 (omega (arith, b.some)) in
-      let high : w ≤ 1048576 = omega (arith, b.few, narrower s positive b.some) in
-      and_from (is_block_size s.hash_block && is_block_size s.hash_block && is_count w) (is_slot s.slot)
-      (and_from (is_block_size s.hash_block && is_block_size s.hash_block) (is_count w) (and_from (is_block_size s.hash_block) (is_block_size s.hash_block) z.1 z.1)
-      (and_from (nat_le 1 w) (nat_le w 1048576) (le-leb 1 w low) (le-leb w 1048576 high))) x.1
-
-  -- the tree over level 0 is accepted
-  module _ (more : levels s ≡ 0 → ⊥) (row above top : List ℕ) (row_len : length row ≡ width s 1 * s.hash_block) (above_len : length above ≡ start s 0 * s.hash_block) (top_len : length top ≡ size) where
-    same_upper : shape_for size e e row ≡ upper s
-    same_upper =
-        let b = bounds s known.limits in
-        let is : e ≡ s.hash_block = sym (ap (λ u. u.hash_block) known.shaped) in
-        let pos : 0 < s.hash_block = omega (arith, b.hash_low) in
-        let count : length row / e ≡ width s 1 = ap₂ (λ x y. x / y) row_len is ∙ mul-div_cancel (width s 1) pos in
-        ap₂ (λ k n. shape k k n size) is count ∙ ap (shape s.hash_block s.hash_block (width s 1)) slot
-
-    upper_fits : lengths_fit (upper s) row above top ≡ true
-    upper_fits =
-        let w = width s 1 in
-        let t = tree_blocks (upper s) * s.hash_block in
-        let above_is : length above ≡ t = above_len ∙ ap (λ k. k * s.hash_block) (start_up s known.sound.wide (more_blocks s known.sound.wide more)) in
-        and_from ((length row == w * s.hash_block) && length above == t) (length top == s.slot)
-        (and_from (length row == w * s.hash_block) (length above == t) (eq-eqb (length row) (w * s.hash_block) row_len) (eq-eqb (length above) t above_is))
-        (eq-eqb (length top) s.slot (top_len ∙ slot))
-
-    upper_limits : limits_met size e e row salt ≡ true
-    upper_limits =
-        subst (λ u. (within u && nat_le (length salt) 256) ≡ true) (sym same_upper)
-        (and_from (within (upper s)) (nat_le (length salt) 256) upper_within (le-leb (length salt) 256 known.short))
-
-    upper_room : lengths_fit (shape_for size e e row) row above top ≡ true
-    upper_room = subst (λ u. lengths_fit u row above top ≡ true) (sym same_upper) upper_fits
-
-    pub upper_accepted : answer size e e row salt above top ≡ Ok tt
-    upper_accepted =
-        cond-true (limits_met size e e row salt) (cond (lengths_fit (shape_for size e e row) row above top) (Ok tt) (Err Length)) (Err Limit) upper_limits
-        ∙ cond-true (lengths_fit (shape_for size e e row) row above top) (Ok tt) (Err Length) upper_room
-
-    accepts_upper : accepts size e e row salt above top ≡ true
-    accepts_upper = and_from (limits_met size e e row salt) (lengths_fit (shape_for size e e row) row above top) upper_limits upper_room
-
-    upper_tree : tree_after size meaning e e row salt above top ≡ tree h (upper s) row
-    upper_tree =
-        cond-true (accepts size e e row salt above top) (tree h (shape_for size e e row) row) (replicate (length above) 0) accepts_upper ∙ ap (λ u. tree h u row) same_upper
-
-    upper_root : root_after size meaning e e row salt above top ≡ root h (upper s) row
-    upper_root =
-        cond-true (accepts size e e row salt above top) (root h (shape_for size e e row) row) (replicate (length top) 0) accepts_upper ∙ ap (λ u. root h u row) same_upper
-
-  -- the parts of the tree's buffer, where the digests are written over the front of the second
-  pub record Cut (row above top : List ℕ) : Type 0 where
-    pub row_len : length row ≡ width s 1 * s.hash_block
-    pub above_len : length above ≡ start s 0 * s.hash_block
-    pub top_len : length top ≡ size
-
-  pub cut_of : (levels s ≡ 0 → ⊥) → {first bytes : ℕ} → first ≡ start s 0 → bytes ≡ s.hash_block → (all front back row top : List ℕ) → length all ≡ length for_tree
-      → length front ≡ first * bytes → length back ≡ length all - first * bytes → row ≡ digests ++ replicate (length back - length digests) 0 → length top ≡ length for_root
-      → Cut row front top
-  cut_of more {first = first} {bytes = bytes} at is all front back row top all_len front_len back_len row_is top_is =
-      let rest : length back ≡ width s 1 * s.hash_block = cut_rest more at is (omega (arith, back_len, all_len)) in
-      let n = length back - length digests in
+  -- zeros for the levels from i up, cut where level i starts: zeros for those above it, and for level i
+  pub cut : {i at : ℕ} {buf : List ℕ} → i < levels s → at ≡ start s i * s.hash_block → buf ≡ replicate (tree_len (over s i)) 0 → Cut s i at buf
+  unfolding blocks_from
+  cut {i = i} {at = at} {buf = buf} low here zeros =
+      let e = s.hash_block in
+      let above : at ≡ tree_len (over s (i + 1)) = here ∙ ap (λ k. k * e) (sym (tree_over (suc i) low) ∙ ap (λ k. tree_blocks (over s k)) (sym (add-one i))) in
+      let next : levels s - i ≡ suc (levels s - suc i) = omega arith in
+      let whole : tree_len (over s i) ≡ at + width s (i + 1) * e =
+      ap (λ k. k * e) (tree_over i (omega arith) ∙ ap (blocks_from s i) next) ∙ omega (arith, here, ap (λ k. width s k * e) (add-one i)) in
       record {
-        row_len = ap length row_is ∙ length-append digests (replicate n 0) ∙ omega (arith, length-replicate {A = ℕ} n 0, digests_room, rest);
-        above_len = front_len ∙ ap₂ (λ x y. x * y) at is;
-        top_len = top_is ∙ known.root_room;
+        inside = omega (arith, whole, ap length zeros, length-replicate {A = ℕ} (tree_len (over s i)) 0);
+        front = ap (take at) (zeros ∙ ap (λ k. replicate k 0) whole) ∙ take-replicate at (at + width s (i + 1) * e) 0 (omega arith) ∙ ap (λ k. replicate k 0) above;
+        back = ap (drop at) (zeros ∙ ap (λ k. replicate k 0) whole) ∙ drop-replicate at (at + width s (i + 1) * e) 0 ∙ ap (λ k. replicate k 0) (let d : at + width s (i + 1) * e - at ≡ width s (i + 1) * e = omega arith in d);
       }
 
-  -- what both buffers are to hold, once accepted
-  pub tree_is : (xs : List ℕ) → xs ≡ tree_above h s digests → xs ≡ tree_above_after size meaning d e digests salt for_tree for_root
-  tree_is xs is =
-      is ∙ ap (λ u. tree_above h u digests) known.shaped
-      ∙ sym (cond-true (above_accepts size d e digests salt for_tree for_root) (tree_above h (shape_above size d e digests) digests) (replicate (length for_tree) 0) known.passed)
+  pub some_over : (i : ℕ) → 1 ≤ s.blocks → 1 ≤ width s i
+  some_over i some = in_width s positive i 0 (omega arith)
 
-  pub root_is : (xs : List ℕ) → xs ≡ root_above h s digests → xs ≡ root_above_after size meaning d e digests salt for_tree for_root
-  root_is xs is =
-      is ∙ ap (λ u. root_above h u digests) known.shaped
-      ∙ sym (cond-true (above_accepts size d e digests salt for_tree for_root) (root_above h (shape_above size d e digests) digests) (replicate (length for_root) 0) known.passed)
+module _ {s : Shape} {i at : ℕ} {buf : List ℕ} (here : Cut s i at buf) {level : List ℕ} (is : level ≡ drop at buf) where
+  pub level_len : length level ≡ width s (i + 1) * s.hash_block
+  level_len = ap length (is ∙ here.back) ∙ length-replicate (width s (i + 1) * s.hash_block) 0
 
-  -- no level
-  pub no_tree : levels s ≡ 0 → (buf : List ℕ) → length buf ≡ length for_tree → buf ≡ tree_above h s digests
-  no_tree none buf long =
-      let empty : length for_tree ≡ 0 = known.tree_room ∙ ap (λ k. k * s.hash_block) (sym (blocks_none s none)) ∙ omega arith in
-      nil_from_length buf (omega (arith, long, empty)) ∙ sym (without_tree h s digests none)
+  pub level_zeros : level ≡ replicate (length level) 0
+  level_zeros = is ∙ here.back ∙ ap (λ n. replicate n 0) (sym level_len)
 
-  pub one_root : levels s ≡ 0 → digests ≡ root_above h s digests
-  one_root none = sym (without_root h s digests none)
+  -- what is written there is a row
+  pub level_row : (row : List ℕ) → length row ≡ length level → IsRow (over s (i + 1)) row
+  level_row row same = same ∙ level_len ∙ ap (λ b. width s (i + 1) * b) (sym (ap (block_len s) (add-one i)))
 
-  -- some levels
-  module _ (more : levels s ≡ 0 → ⊥) (row above top : List ℕ) (row_len : length row ≡ width s 1 * s.hash_block) (above_len : length above ≡ start s 0 * s.hash_block) (top_len : length top ≡ size)
-      (full : row ≡ level_zero s digests) where
-    pub whole_tree : tree_after size meaning e e row salt above top ++ row ≡ tree_above h s digests
-    whole_tree =
-        ap (λ xs. xs ++ row) (upper_tree more row above top row_len above_len top_len) ∙ ap (λ xs. tree h (upper s) xs ++ xs) full
-        ∙ sym (with_tree h s digests more)
+-- no level has no bytes
+pub no_level : (s : Shape) → levels s ≡ 0 → replicate {A = ℕ} (tree_len s) 0 ≡ []
+unfolding blocks_from
+no_level s none = let empty : 0 * s.hash_block ≡ 0 = omega arith in ap (λ n. replicate (blocks_from s 0 n * s.hash_block) 0) none ∙ ap (λ k. replicate k 0) empty
 
-    pub whole_root : root_after size meaning e e row salt above top ≡ root_above h s digests
-    whole_root = upper_root more row above top row_len above_len top_len ∙ ap (root h (upper s)) full ∙ sym (with_root h s digests more)
+-- over the data lies the whole tree
+pub over_data : (g : Geometry) → over (shape_of g) 0 ≡ shape_of g
+over_data g =
+    let s = shape_of g in
+    ap (λ w. shape s.data_block s.hash_block w s.slot) (width_zero s (omega (arith, bounds_of g)))
+
+pub row_over : (g : Geometry) (row : List ℕ) → IsRow (shape_of g) row → IsRow (over (shape_of g) 0) row
+row_over g row whole = subst (λ t. IsRow t row) (sym (over_data g)) whole
+
+pub zeros_over : (g : Geometry) {buf : List ℕ} → buf ≡ replicate (tree_len (shape_of g)) 0 → buf ≡ replicate (tree_len (over (shape_of g) 0)) 0
+zeros_over g zeros = zeros ∙ ap (λ t. replicate (tree_len t) 0) (sym (over_data g))
+
+pub block_len_within : (s : Shape) → within s ≡ true → (i : ℕ) → (0 < block_len s i) × (block_len s i ≤ 4096)
+block_len_within s limits zero = let known = bounds s limits in (omega (arith, known.data_low), known.data_high)
+block_len_within s limits (suc i) = let known = bounds s limits in (omega (arith, known.hash_low), known.hash_high)
+
+-- a job has a tree, and so have its levels from i up
+pub sound_of : {X : Type 0} {d : _} (job : Job X d) → ((m : List ℕ) → length (d.meaning m) ≡ d.LEN) → Sound (hash_by job) (shape_of job.geometry) d.LEN
+sound_of {d = d} job sized = sound_salted d.meaning job.salt.now (shape_of job.geometry) d.LEN sized job.geometry.limits job.bare
+
+pub sound_over : {X : Type 0} {d : _} (job : Job X d) (i : ℕ) → ((m : List ℕ) → length (d.meaning m) ≡ d.LEN) → Sound (hash_by job) (over (shape_of job.geometry) i) d.LEN
+sound_over job i sized =
+    let s = shape_of job.geometry in
+    let sound = sound_of job sized in
+    record {
+      some = some_over s sound.wide i sound.some;
+      wide = sound.wide;
+      filled = sound.filled;
+      bytes = (block_len_within s job.geometry.limits i).0;
+      fits = sound.fits;
+      sized = sound.sized;
+    }

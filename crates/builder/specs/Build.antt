@@ -1,44 +1,32 @@
--- What `build` answers and writes. The limits come before the lengths.
-use Rattle.std.specs.Prelude.{ℕ, ◌*◌, ◌/◌, Bool, cond, ◌&&◌, List, length, replicate, Ok, Err, Result, ◌==◌, nat_le}
-use Rattle.geometry.specs.Limits.{shape, within}
-use Rattle.tree.specs.Shape.{Shape, tree_blocks}
+-- What `build` answers and writes, for a digest of this size and meaning.
+use Rattle.std.specs.Prelude.{ℕ, ◌/◌, Bool, ◌&&◌, List, length, Result}
+use Rattle.geometry.specs.Limits.{shape}
+use Rattle.tree.specs.Shape.{Shape}
 use Rattle.tree.specs.Tree.{salted, tree, root}
 use Rattle.builder.specs.declared.fault.BuildFault.{BuildFault}
-use Rattle.builder.specs.declared.fault.BuildFault.TheVariants.{Limit, Length}
+use Rattle.builder.specs.declared.source.Source.{Source}
+use Rattle.builder.specs.Check.{in_limits, is_whole, has_room, verdict, written}
 
--- the number of a fault
-abbrev pub number_of : BuildFault → ℕ
-number_of Limit = 2
-number_of Length = 3
+-- the shape of the tree over a source: the image's whole blocks count, and a slot is as long as a digest
+abbrev pub shape_for : ℕ → Source → Shape
+shape_for size source = shape source.data_block source.hash_block (length source.image.now / source.data_block) size
 
--- the shape of the tree over an image, by the digest's size and the sizes of a data block and a tree block:
--- the image's whole blocks count
-abbrev pub shape_for : ℕ → ℕ → ℕ → List ℕ → Shape
-shape_for size d e image = shape d e (length image / d) size
+abbrev pub limits_met : ℕ → Source → Bool
+limits_met size source = in_limits (shape_for size source) source.salt.now
 
--- the shape is within the limits, and the salt has at most 256 bytes
-abbrev pub limits_met : ℕ → ℕ → ℕ → List ℕ → List ℕ → Bool
-limits_met size d e image salt = within (shape_for size d e image) && nat_le (length salt) 256
+-- the image is whole blocks, and the buffers are as long as the tree and the root
+abbrev pub lengths_fit : ℕ → Source → List ℕ → List ℕ → Bool
+lengths_fit size source for_tree for_root = is_whole (shape_for size source) source.image.now && has_room size (shape_for size source) for_tree for_root
 
--- the image is whole blocks, and the buffers for the tree and the root are as long as these
-abbrev pub lengths_fit : Shape → List ℕ → List ℕ → List ℕ → Bool
-lengths_fit s image for_tree for_root =
-    (length image == s.blocks * s.data_block) && length for_tree == tree_blocks s * s.hash_block && length for_root == s.slot
-
-abbrev pub answer : ℕ → ℕ → ℕ → List ℕ → List ℕ → List ℕ → List ℕ → Result (Unit {0}) BuildFault
-answer size d e image salt for_tree for_root =
-    cond (limits_met size d e image salt) (cond (lengths_fit (shape_for size d e image) image for_tree for_root) (Ok tt) (Err Length)) (Err Limit)
-
--- nothing is refused
-abbrev pub accepts : ℕ → ℕ → ℕ → List ℕ → List ℕ → List ℕ → List ℕ → Bool
-accepts size d e image salt for_tree for_root = limits_met size d e image salt && lengths_fit (shape_for size d e image) image for_tree for_root
+abbrev pub answer : ℕ → Source → List ℕ → List ℕ → Result (Unit {0}) BuildFault
+answer size source for_tree for_root = verdict (limits_met size source) (lengths_fit size source for_tree for_root)
 
 -- what the tree's buffer holds then: the tree, or zeros
-abbrev pub tree_after : ℕ → (List ℕ → List ℕ) → ℕ → ℕ → List ℕ → List ℕ → List ℕ → List ℕ → List ℕ
-tree_after size meaning d e image salt for_tree for_root =
-    cond (accepts size d e image salt for_tree for_root) (tree (salted meaning salt) (shape_for size d e image) image) (replicate (length for_tree) 0)
+abbrev pub tree_after : ℕ → (List ℕ → List ℕ) → Source → List ℕ → List ℕ → List ℕ
+tree_after size meaning source for_tree for_root =
+    written (limits_met size source) (lengths_fit size source for_tree for_root) (tree (salted meaning source.salt.now) (shape_for size source) source.image.now) for_tree
 
 -- and the root's: the root, or zeros
-abbrev pub root_after : ℕ → (List ℕ → List ℕ) → ℕ → ℕ → List ℕ → List ℕ → List ℕ → List ℕ → List ℕ
-root_after size meaning d e image salt for_tree for_root =
-    cond (accepts size d e image salt for_tree for_root) (root (salted meaning salt) (shape_for size d e image) image) (replicate (length for_root) 0)
+abbrev pub root_after : ℕ → (List ℕ → List ℕ) → Source → List ℕ → List ℕ → List ℕ
+root_after size meaning source for_tree for_root =
+    written (limits_met size source) (lengths_fit size source for_tree for_root) (root (salted meaning source.salt.now) (shape_for size source) source.image.now) for_root

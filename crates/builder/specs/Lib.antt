@@ -1,7 +1,6 @@
-pub mod Build
+pub mod Fault
 pub mod Check
-pub mod Ready
+pub mod Build
 pub mod Parts
 pub mod InParts
-pub mod BaseCheck
-pub mod Sentence
+pub mod Above

@@ -1,38 +1,36 @@
 -- The parts of a job's tree, in the order in which they are filled.
-use Rattle.std.specs.Prelude.{ℕ, zero, suc, ◌-◌, ◌*◌, List}
-use Rattle.geometry.specs.Of.{shape_of}
-use Rattle.tree.specs.Shape.{Shape, levels, width, blocks_from}
-use Rattle.tree.specs.Tree.{salted, level, lowest, tree, root}
+use Rattle.std.specs.Prelude.{◌≡◌, ℕ, zero, suc, ◌*◌, List, length}
+use Rattle.std.specs.List.{range_with_len, flat_map}
+use Rattle.geometry.specs.Limits.{shape}
+use Rattle.tree.specs.Shape.{Shape, width, tree_blocks}
+use Rattle.tree.specs.Tree.{block_of, in_slot, salted}
 use Rattle.builder.specs.declared.job.Job.{Job}
 
--- bytes of a block i steps above the data, of level i, and of the levels from i up
+-- a job's salted digest
+abbrev pub hash_by : {X : Type 0} {d : _} → Job X d → List ℕ → List ℕ
+hash_by {d = d} job = salted d.meaning job.salt.now
+
+-- bytes of a block i steps above the data
 abbrev pub block_len : Shape → ℕ → ℕ
 block_len s zero = s.data_block
 block_len s (suc i) = s.hash_block
 
-abbrev pub level_len : Shape → ℕ → ℕ
-level_len s i = width s (suc i) * s.hash_block
+-- the shape of the levels from i up, of which the blocks i steps above the data are the data
+abbrev pub over : Shape → ℕ → Shape
+over s i = shape (block_len s i) s.hash_block (width s i) s.slot
 
-abbrev pub len_from : Shape → ℕ → ℕ
-len_from s i = blocks_from s i (levels s - i) * s.hash_block
+-- bytes of the tree
+abbrev pub tree_len : Shape → ℕ
+tree_len s = tree_blocks s * s.hash_block
 
--- the blocks i steps above the data, joined: the image where i is 0, and else the level below level i
-abbrev pub row : (List ℕ → List ℕ) → Shape → List ℕ → ℕ → List ℕ
-row h s image zero = image
-row h s image (suc i) = level h s image i
+-- all the blocks of a shape, joined
+abbrev pub IsRow : Shape → List ℕ → Type 0
+IsRow s row = length row ≡ s.blocks * s.data_block
 
--- the same of a job, level i over them, the i lowest levels, the whole tree and its root
-abbrev pub row_of : {X : Type 0} {d : _} → Job X d → ℕ → List ℕ
-row_of {d = d} job = row (salted d.meaning job.salt.now) (shape_of job.geometry) job.image.now
+-- n pieces, each in a slot
+abbrev pub slots_of : ℕ → (ℕ → List ℕ) → ℕ → List ℕ
+slots_of slot piece n = flat_map (λ k. in_slot slot (piece k)) (range_with_len 0 n)
 
-abbrev pub level_of : {X : Type 0} {d : _} → Job X d → ℕ → List ℕ
-level_of {d = d} job = level (salted d.meaning job.salt.now) (shape_of job.geometry) job.image.now
-
-abbrev pub lowest_of : {X : Type 0} {d : _} → Job X d → ℕ → List ℕ
-lowest_of {d = d} job = lowest (salted d.meaning job.salt.now) (shape_of job.geometry) job.image.now
-
-abbrev pub tree_of : {X : Type 0} {d : _} → Job X d → List ℕ
-tree_of {d = d} job = tree (salted d.meaning job.salt.now) (shape_of job.geometry) job.image.now
-
-abbrev pub root_of : {X : Type 0} {d : _} → Job X d → List ℕ
-root_of {d = d} job = root (salted d.meaning job.salt.now) (shape_of job.geometry) job.image.now
+-- the salted digests of the blocks of a row, each in a slot
+abbrev pub row_slots : (List ℕ → List ℕ) → Shape → ℕ → List ℕ → List ℕ
+row_slots h s slot row = slots_of slot (λ k. h (block_of s.data_block row k)) s.blocks

@@ -1,16 +1,16 @@
 // Why a tree was not built.
 ghost use Rattle.std.specs.Prelude.{◌≡◌, ◌++◌, Some, codes};
 ghost use Rattle.std.specs.Fmt.{decimal};
-ghost use Rattle.builder.specs.Build.{number_of};
-ghost use Rattle.builder.specs.Sentence.{sentence_of};
+ghost use Rattle.builder.specs.Fault.{number_of, sentence_of};
 
 use std::fmt;
 
+/// Why nothing was built.
 #[derive(Clone, Copy, PartialEq, Eq, Debug)]
 pub enum BuildFault {
-    // A block size, the number of blocks or the salt is outside its limit.
+    /// A block size, the number of blocks or the salt is outside its limit.
     Limit = 2,
-    // The image is not whole blocks, or a buffer has not the length of what goes into it.
+    /// The image is not whole blocks, or a buffer has not the length of what goes into it.
     Length = 3,
 }
 

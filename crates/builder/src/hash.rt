@@ -1,50 +1,33 @@
 // The digests of an image's blocks, of which a tree can be built by `build_above`. A long image can be taken in parts.
 ghost use Rattle.std.specs.Prelude.{◌≡◌};
-ghost use Rattle.builder.specs.InParts.{PartsStand, digests_fit, hashed_after, hashed_answer};
-ghost use Rattle.geometry.specs.Of.{shape_of};
+ghost use Rattle.builder.specs.InParts.{PartsStand, hashed_after, hashed_answer};
 
 use crate::fault::BuildFault;
-use crate::job::Job;
 use crate::source::Source;
 use digest::Digest;
-use geometry::Geometry;
 
-impl Source<'_> {
-    // Whether the image is whole blocks, and the buffer is as long as their digests.
-    fn digests_fit(&self, g: &Geometry, digests: &[u8]) -> bool
-        ensures { result ≡ digests_fit (shape_of g.now) self.now.image.now digests.now }
-    {
-        self.image.len() == g.blocks() * g.data_block() && digests.len() == g.blocks() * g.slot()
-    }
-}
-
-// Writes the salted digest of each block of the image, in order. Refused, it leaves the buffer all zeros.
+/// Writes the salted digest of each block of the image, in order, joined.
+///
+/// Refused, it leaves the buffer all zeros: 2 for a block size, a number of blocks or a salt outside its limit, then 3 for an
+/// image that is not whole blocks, or a buffer that has not the length of the digests.
 pub fn hash_blocks<D: Digest>(
     digest: &D,
     source: &Source<'_>,
     digests: &mut [u8],
 ) -> Result<(), BuildFault>
-    ensures answer { result ≡ hashed_answer D.LEN source.now.data_block source.now.hash_block source.now.image.now source.now.salt.now digests.old }
-    ensures digests { digests.new ≡ hashed_after D.LEN D.meaning source.now.data_block source.now.hash_block source.now.image.now source.now.salt.now digests.old }
+    ensures answer { result ≡ hashed_answer D.LEN source.now digests.old }
+    ensures digests { digests.new ≡ hashed_after D.LEN D.meaning source.now digests.old }
 {
     digests.fill(0);
-    let geometry = source
-        .geometry(digest.output_len())
-        .ok_or(BuildFault::Limit)?;
-    if !source.digests_fit(&geometry, digests) {
+    let job = source.job(digest)?;
+    if !source.is_whole(&job.geometry) || digests.len() != job.digests_len() {
         return Err(BuildFault::Length);
     }
-    let job = Job {
-        digest,
-        geometry,
-        image: source.image,
-        salt: source.salt,
-    };
-    job.hash_blocks(digests);
+    job.fill_slots(0, source.image, digest.output_len(), digests);
     Ok(())
 }
 
-// The digests of images that are joined are those of each, joined.
+/// The digests of images that are joined are those of each, joined.
 pub fn parts_stand()
     ensures { PartsStand }
 {}

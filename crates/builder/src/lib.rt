@@ -3,9 +3,7 @@
 
 mod above;
 mod base;
-mod check;
 mod fault;
-mod fill;
 mod hash;
 mod job;
 mod make;

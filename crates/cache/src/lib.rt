@@ -2,8 +2,6 @@
 #![tactic(auto)]
 
 mod cache;
-mod layer;
-mod lookup;
 mod row;
 mod rows;
 

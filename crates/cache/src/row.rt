@@ -14,3 +14,44 @@ pub(crate) struct Row {
     pub(crate) bytes: [u8; ROW],
     ghost whole: { IfSome question (λ q. length (take q.length bytes) ≡ q.length) } by { Prim.hlevel props },
 }
+
+impl Row {
+    ghost use Rattle.std.specs.Prelude.{◌≡◌, ◌≤◌, MatchOption, None, Some};
+    ghost use Rattle.layers.specs.Cache.{row_for};
+    ghost use Rattle.cache.specs.Rows.{row_of};
+
+    pub(crate) fn empty() -> Row
+        ensures { row_of result ≡ None }
+    {
+        Row {
+            question: None,
+            bytes: [0; ROW],
+        }
+    }
+
+    // The bytes that the row has for a question.
+    pub(crate) fn get(&self, question: &Question) -> Option<&[u8]>
+        ensures found { MatchOption result (row_for question.now (row_of self.now) ≡ None) (λ bytes. row_for question.now (row_of self.now) ≡ Some bytes.now) }
+        ensures long { IfSome result (λ bytes. length bytes.now ≡ question.now.length) }
+    {
+        let kept = self.question?;
+        if kept != *question {
+            return None;
+        }
+        Some(&self.bytes[..kept.length])
+    }
+
+    // Writes the row anew.
+    pub(crate) fn put(&mut self, question: Question, bytes: &[u8])
+        requires whole { length bytes.now ≡ question.length }
+        requires short { length bytes.now ≤ 4096 }
+        ensures { row_of self.new ≡ Some (record { question = question; bytes = bytes.now }) }
+    {
+        let mut kept = [0; ROW];
+        kept[..bytes.len()].copy_from_slice(bytes);
+        *self = Row {
+            question: Some(question),
+            bytes: kept,
+        };
+    }
+}

@@ -11,6 +11,7 @@ use Rattle.layers.specs.declared.fault.StorageFault.{StorageFault}
 use Rattle.layers.specs.Anchor.{Anchor}
 use Rattle.layers.specs.Verity.{is_block}
 use Rattle.layers.specs.Laws.{NamesLast}
+use Rattle.layers.specs.Store.{IsServed}
 use Rattle.layers.proofs.Blocks.{within}
 use Rattle.volume.specs.Fetches.{Fetches, give, refuse, fetch, blocks, touched, fetch_blocks, by_blocks}
 use Rattle.volume.proofs.Clean.{Clean}
@@ -18,7 +19,6 @@ use Rattle.calls.specs.Mount.{image_length}
 use Rattle.calls.specs.Paths.{Path, Fetch, of_paths, of_fetches, Rising, Touches, IsWhole, Ends, IsAsked, Makes}
 use Rattle.calls.proofs.Fetching.{touched_room}
 use Rattle.calls.proofs.Replays.{Served, below, below-append, Replays, replays-bind, replays-put}
-use Rattle.calls.proofs.Serving.{IsServed, Serves}
 use Rattle.calls.proofs.Lasts.{last_behind, last_put, HoldsLast, holds_none, holds_some, holds_behind}
 
 -- of two lists in one
@@ -43,6 +43,10 @@ each-mapped f P Q (x ∷ xs) on all = (on x all.0, each-mapped f P Q xs on all.1
 pub record Between {R : Type 0} (b to : ℕ) (path : Path R) : Type 0 where
   pub low : b ≤ path.block
   pub high : path.block < to
+
+-- each question for a data block is answered by a path, or by nothing that is asked
+abbrev pub Serves : {R : Type 0} → Anchor → Served R → Type 0
+Serves a g = is_block a.shape g.question ≡ true → IsServed a g.question.block g.answer g.exchanges
 
 module _ (a : Anchor) where
   abbrev d : ℕ

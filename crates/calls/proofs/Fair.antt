@@ -10,26 +10,6 @@ use Rattle.layers.specs.Verity.{is_block}
 use Rattle.layers.specs.Publisher.{Publisher, right_block, Differs, NoTwin}
 use Rattle.layers.specs.Judged.{IsFor, WasRefused, Judged}
 
--- a fault names a block that was refused in these exchanges, or came in them and is not the publisher's
-abbrev pub Blames : {R : Type 0} → Publisher → StorageFault R → List (Exchange R) → Type 0
-Blames p Label xs = ⊥
-Blames p (NoBlock block) xs = ⊥
-Blames p (Refused place refusal) xs = Somewhere (λ x. IsFor p.shape place x × WasRefused p refusal x) xs
-Blames p (Mismatch place) xs = Somewhere (λ x. IsFor p.shape place x × Differs p x) xs
-
--- an answer is the publisher's block, or a fault that names one to blame
-abbrev pub IsFair : {R : Type 0} → Publisher → Question → Answer (StorageFault R) → List (Exchange R) → Type 0
-IsFair p q (Ok block) xs = right_block p q ≡ Some block
-IsFair p q (Err fault) xs = Blames p fault xs
-
--- what the path check answers is fair, where no twin was given
-pub fair_judged : {R : Type 0} (p : Publisher) (q : Question) (answer : Answer (StorageFault R)) (xs : List (Exchange R)) → NoTwin p xs → Judged p q answer xs → IsFair p q answer xs
-fair_judged p q (Ok block) xs none judged = judged none
-fair_judged p q (Err (Refused place refusal)) xs none judged = judged
-fair_judged p q (Err (Mismatch place)) xs none judged = judged none
-fair_judged p q (Err Label) xs none judged = judged
-fair_judged p q (Err (NoBlock block)) xs none judged = judged
-
 -- what is to hold of a program's value, and of the fault that it saw
 abbrev pub Post : Type 0 → Type 0 → Type 1
 Post R A = A → Option (StorageFault R) → Type 0

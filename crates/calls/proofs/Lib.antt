@@ -1,12 +1,10 @@
 pub mod Fair
 pub mod Lift
-pub mod Stores
 pub mod Fetching
 pub mod Within
 pub mod States
 pub mod Steps
 pub mod Replays
-pub mod Serving
 pub mod Lasts
 pub mod Asking
 pub mod Paths

@@ -1,18 +1,17 @@
--- What stands between the volume and the device is a store. Where a store is fair, so is any program through it.
+-- Where a store answers with the publisher's blocks, or names one to blame, so does any program through it.
 use Rattle.std.proofs.Common.{◌≡◌, ℕ, true, List, [], ◌∷◌, ◌++◌, Option, None, Some, IfSome, Ok, Err, sym, subst}
 use Rattle.device.specs.declared.question.Question.{Question}
 use Rattle.device.specs.Answer.{Answer}
 use Rattle.device.specs.Program.{Program, done, ask, bind, Meaning, Exchange, Sized, after, result, asked, exchanges}
 use Rattle.device.specs.Layer.{through}
-use Rattle.device.proofs.Runs.{result-bind}
-use Rattle.device.proofs.Exchanges.{sized-after, exchanges-bind}
+use Rattle.device.proofs.Exchanges.{sized-after, of-bind}
 use Rattle.layers.specs.declared.fault.StorageFault.{StorageFault}
 use Rattle.layers.specs.declared.fault.StorageFault.TheVariants.{Label, NoBlock, Refused, Mismatch}
-use Rattle.layers.specs.Verity.{is_block}
-use Rattle.layers.specs.Publisher.{Publisher, NoTwin, Differs, right_block}
+use Rattle.layers.specs.Store.{StoreRule, IsStore, Blames, IsFair}
+use Rattle.layers.specs.Publisher.{Publisher, Whole, anchor_of, NoTwin, Differs, right_block}
 use Rattle.layers.specs.Judged.{IsFor, WasRefused}
 use Rattle.layers.proofs.Caching.{still, behind}
-use Rattle.calls.proofs.Fair.{Blames, IsFair, Post, Fair}
+use Rattle.calls.proofs.Fair.{Post, Fair}
 
 -- what a fault names in some exchanges it names in more
 pub blames-still : {R : Type 0} (p : Publisher) (fault : StorageFault R) (xs ys : List (Exchange R)) → Blames p fault xs → Blames p fault (xs ++ ys)
@@ -36,18 +35,13 @@ pub none-second : {R : Type 0} (p : Publisher) (xs ys : List (Exchange R)) → N
 none-second p [] ys none = none
 none-second p (x ∷ xs) ys none = none-second p xs ys none.1
 
--- a store, with what it keeps of its state
-pub record Store (R S : Type 0) (p : Publisher) : Type 1 where
-  pub rule : S → Question → Program R (Answer (StorageFault R) × S)
-  pub Keeps : S → Type 0
-  -- where no twin is given, it answers a question for a data block with the publisher's, or blames one
-  pub fair : (m : Meaning R) → Sized m → (s : S) → Keeps s → (q : Question) → is_block p.shape q ≡ true → NoTwin p (exchanges m (rule s q))
-      → IsFair p q (result m (rule s q)).0 (exchanges m (rule s q)) × Keeps (result m (rule s q)).1
+module _ {R M A : Type 0} (p : Publisher) (whole : Whole p) (store : StoreRule R M) (Keeps : Publisher → M → Type 0) (laws : IsStore store Keeps) (post : Post R A) where
+  abbrev step : M → Question → Program R (Answer (StorageFault R) × M)
+  step = store.step (Some (anchor_of p))
 
-module _ {R S A : Type 0} (p : Publisher) (store : Store R S p) (post : Post R A) where
   -- what holds at the end of a program through the store
-  pub record Ends (end : A × S) (xs : List (Exchange R)) : Type 0 where
-    pub keeps : store.Keeps end.1
+  pub record Ends (end : A × M) (xs : List (Exchange R)) : Type 0 where
+    pub keeps : Keeps p end.1
     pub seen : Option (StorageFault R)
     pub holds : post end.0 seen
     pub blames : IfSome seen (λ fault. Blames p fault xs)
@@ -56,7 +50,7 @@ module _ {R S A : Type 0} (p : Publisher) (store : Store R S p) (post : Post R A
   later xs ys None h = tt
   later xs ys (Some fault) h = blames-behind p fault xs ys h
 
-  ends_with : (xs ys : List (Exchange R)) (end : A × S) → Ends end ys → Ends end (xs ++ ys)
+  ends_with : (xs ys : List (Exchange R)) (end : A × M) → Ends end ys → Ends end (xs ++ ys)
   ends_with xs ys end ends = record {
     keeps = ends.keeps;
     seen = ends.seen;
@@ -65,33 +59,32 @@ module _ {R S A : Type 0} (p : Publisher) (store : Store R S p) (post : Post R A
   }
 
   -- after a fault nothing is asked
-  stuck : (program : Program (StorageFault R) A) (fault : StorageFault R) → Fair p program (Some fault) post → (s : S) → store.Keeps s → (m : Meaning R) (ys : List (Exchange R)) → Blames p fault ys
-      → Ends (result m (through store.rule program s)) (ys ++ exchanges m (through store.rule program s))
+  stuck : (program : Program (StorageFault R) A) (fault : StorageFault R) → Fair p program (Some fault) post → (s : M) → Keeps p s → (m : Meaning R) (ys : List (Exchange R)) → Blames p fault ys
+      → Ends (result m (through step program s)) (ys ++ exchanges m (through step program s))
   stuck (done a) fault fair s keeps m ys blames = record { keeps = keeps; seen = Some fault; holds = fair; blames = blames-still p fault ys [] blames }
   stuck (ask q next) fault fair s keeps m ys blames = absurd fair
 
   -- the rest of a program, by a fair answer to its first question
-  rest : (q : Question) (next : Answer (StorageFault R) → Program (StorageFault R) A) → ((fault : StorageFault R) → Fair p (next (Err fault)) (Some fault) post) → (s : S) → store.Keeps s → (m : Meaning R) (ys : List (Exchange R))
-      → ((block : List ℕ) → right_block p q ≡ Some block → NoTwin p (exchanges m (through store.rule (next (Ok block)) s)) → Ends (result m (through store.rule (next (Ok block)) s)) (exchanges m (through store.rule (next (Ok block)) s)))
-      → (answer : Answer (StorageFault R)) → IsFair p q answer ys → NoTwin p (exchanges m (through store.rule (next answer) s)) → Ends (result m (through store.rule (next answer) s)) (ys ++ exchanges m (through store.rule (next answer) s))
+  rest : (q : Question) (next : Answer (StorageFault R) → Program (StorageFault R) A) → ((fault : StorageFault R) → Fair p (next (Err fault)) (Some fault) post) → (s : M) → Keeps p s → (m : Meaning R) (ys : List (Exchange R))
+      → ((block : List ℕ) → right_block p q ≡ Some block → NoTwin p (exchanges m (through step (next (Ok block)) s)) → Ends (result m (through step (next (Ok block)) s)) (exchanges m (through step (next (Ok block)) s)))
+      → (answer : Answer (StorageFault R)) → IsFair p q answer ys → NoTwin p (exchanges m (through step (next answer) s)) → Ends (result m (through step (next answer) s)) (ys ++ exchanges m (through step (next answer) s))
   rest q next faults s keeps m ys on (Ok block) right none =
-      ends_with ys (exchanges m (through store.rule (next (Ok block)) s)) (result m (through store.rule (next (Ok block)) s)) (on block right none)
+      ends_with ys (exchanges m (through step (next (Ok block)) s)) (result m (through step (next (Ok block)) s)) (on block right none)
   rest q next faults s keeps m ys on (Err fault) blames none = stuck (next (Err fault)) fault (faults fault) s keeps m ys blames
 
-  pub lift : (program : Program (StorageFault R) A) → Fair p program None post → (s : S) → store.Keeps s → (m : Meaning R) → Sized m → NoTwin p (exchanges m (through store.rule program s))
-      → Ends (result m (through store.rule program s)) (exchanges m (through store.rule program s))
+  pub lift : (program : Program (StorageFault R) A) → Fair p program None post → (s : M) → Keeps p s → (m : Meaning R) → Sized m → NoTwin p (exchanges m (through step program s))
+      → Ends (result m (through step program s)) (exchanges m (through step program s))
   lift (done a) fair s keeps m sized none = record { keeps = keeps; seen = None; holds = fair; blames = tt }
   lift (ask q next) fair s keeps m sized none =
-      let first = store.rule s q in
+      let first = step s q in
       let r = result m first in
       let ys = exchanges m first in
       let left = after m (asked m first) in
-      let on : Answer (StorageFault R) × S → Program R (A × S) = λ r. through store.rule (next r.0) r.1 in
-      let split = exchanges-bind first on m in
-      let quiet : NoTwin p (ys ++ exchanges left (on r)) = subst (NoTwin p) split none in
-      let here = store.fair m sized s keeps q fair.0 (none-first p ys (exchanges left (on r)) quiet) in
-      let ends : Ends (result left (on r)) (ys ++ exchanges left (on r)) =
+      let on : Answer (StorageFault R) × M → Program R (A × M) = λ r. through step (next r.0) r.1 in
+      of-bind (λ end xs. NoTwin p xs → Ends end xs) first on m
+      (λ quiet.
+      let here = laws.published p whole m sized s keeps q fair.0 (none-first p ys (exchanges left (on r)) quiet) in
       rest q next fair.2 r.1 here.1 left ys
       (λ block right quiet'. lift (next (Ok block)) (fair.1 block right) r.1 here.1 left (sized-after m (asked m first) sized) quiet')
-      r.0 here.0 (none-second p ys (exchanges left (on r)) quiet) in
-      subst (λ e. Ends e (exchanges m (bind first on))) (sym (result-bind first on m)) (subst (Ends (result left (on r))) (sym split) ends)
+      r.0 here.0 (none-second p ys (exchanges left (on r)) quiet))
+      none

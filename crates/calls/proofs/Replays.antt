@@ -5,8 +5,7 @@ use Rattle.device.specs.declared.question.Question.{Question}
 use Rattle.device.specs.Answer.{Answer}
 use Rattle.device.specs.Program.{Program, done, ask, bind, Meaning, Exchange, after, result, asked, exchanges}
 use Rattle.device.specs.Layer.{through}
-use Rattle.device.proofs.Runs.{result-bind}
-use Rattle.device.proofs.Exchanges.{exchanges-bind}
+use Rattle.device.proofs.Exchanges.{of-bind}
 use Rattle.layers.specs.declared.fault.StorageFault.{StorageFault}
 
 pub record Served (R : Type 0) : Type 0 where
@@ -55,28 +54,24 @@ module _ {R A B : Type 0} where
       let rest = replays-put f (next g.answer) gs b replays in
       (rest.0, (is, rest.1), rest.2)
 
--- a rule that serves each question so, in each state that is kept
-module _ {R S : Type 0} (rule : S → Question → Program R (Answer (StorageFault R) × S)) (Keeps : S → Type 0) (Serves : Served R → Type 0)
-    (serves : (m : Meaning R) (s : S) → Keeps s → (q : Question)
-    → Serves (record { question = q; answer = (result m (rule s q)).0; exchanges = exchanges m (rule s q) }) × Keeps (result m (rule s q)).1) where
+-- a rule that serves each question so
+module _ {R M : Type 0} (rule : M → Question → Program R (Answer (StorageFault R) × M)) (Serves : Served R → Type 0)
+    (serves : (m : Meaning R) (s : M) (q : Question) → Serves (record { question = q; answer = (result m (rule s q)).0; exchanges = exchanges m (rule s q) })) where
   -- what a program through it was served
-  pub record Went {A : Type 0} (program : Program (StorageFault R) A) (end : A × S) (xs : List (Exchange R)) : Type 0 where
+  pub record Went {A : Type 0} (program : Program (StorageFault R) A) (value : A) (xs : List (Exchange R)) : Type 0 where
     pub all : List (Served R)
-    pub replays : Replays program all end.0
+    pub replays : Replays program all value
     pub served : AllByRecursion Serves all
     pub exchanged : xs ≡ below all
-    pub keeps : Keeps end.1
 
-  pub went : {A : Type 0} (program : Program (StorageFault R) A) (m : Meaning R) (s : S) → Keeps s → Went program (result m (through rule program s)) (exchanges m (through rule program s))
-  went (done a) m s keeps = record { all = []; replays = refl; served = tt; exchanged = refl; keeps = keeps }
-  went {A = A} (ask q next) m s keeps =
+  pub went : {A : Type 0} (program : Program (StorageFault R) A) (m : Meaning R) (s : M) → Went program (result m (through rule program s)).0 (exchanges m (through rule program s))
+  went (done a) m s = record { all = []; replays = refl; served = tt; exchanged = refl }
+  went {A = A} (ask q next) m s =
       let first = rule s q in
       let r = result m first in
-      let on : Answer (StorageFault R) × S → Program R (A × S) = λ r. through rule (next r.0) r.1 in
-      let here = serves m s keeps q in
-      let rest = went (next r.0) (after m (asked m first)) r.1 here.1 in
+      let left = after m (asked m first) in
+      let on : Answer (StorageFault R) × M → Program R (A × M) = λ r. through rule (next r.0) r.1 in
+      let rest = went (next r.0) left r.1 in
       let g : Served R = record { question = q; answer = r.0; exchanges = exchanges m first } in
-      let whole : Went (ask q next) (result (after m (asked m first)) (on r)) (exchanges m first ++ exchanges (after m (asked m first)) (on r)) =
-      record { all = g ∷ rest.all; replays = (refl, rest.replays); served = (here.0, rest.served); exchanged = ap (λ xs. exchanges m first ++ xs) rest.exchanged; keeps = rest.keeps } in
-      subst (λ (e : A × S). Went (ask q next) e (exchanges m (bind first on))) (sym (result-bind first on m))
-      (subst (Went (ask q next) (result (after m (asked m first)) (on r))) (sym (exchanges-bind first on m)) whole)
+      of-bind (λ end xs. Went (ask q next) end.0 xs) first on m
+      (record { all = g ∷ rest.all; replays = (refl, rest.replays); served = (serves m s q, rest.served); exchanged = ap (λ xs. exchanges m first ++ xs) rest.exchanged })

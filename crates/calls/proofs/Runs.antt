@@ -14,15 +14,14 @@ use Rattle.geometry.specs.Limits.{within}
 use Rattle.layers.specs.declared.fault.Place.{Place}
 use Rattle.layers.specs.declared.fault.StorageFault.{StorageFault}
 use Rattle.layers.specs.Publisher.{Publisher, Whole, anchor_of, right_block, NoTwin, Honest}
+use Rattle.layers.specs.Store.{StoreRule, IsStore}
 use Rattle.layers.proofs.Judging.{no_twin, wrong, same_block, some_of}
 use Rattle.calls.specs.Calls.{State, Reply, fresh}
-use Rattle.calls.specs.Mount.{Mounted, made, image_length, mount}
+use Rattle.calls.specs.Mount.{Mounted, made, mount}
 use Rattle.calls.specs.Image.{image_reply, image_state, named}
 use Rattle.calls.specs.Law.{Event, Used, all_exchanges, rules_ask, Agrees, IsToBlame, LawOfRuns, IsImage, HonestIsImage}
 use Rattle.calls.proofs.Lift.{none-first, none-second}
-use Rattle.calls.proofs.Stores.{IsTold, AllRight}
-use Rattle.calls.proofs.Within.{Fits}
-use Rattle.calls.proofs.Steps.{Fine, room, call-fine}
+use Rattle.calls.proofs.Steps.{IsHis, Fine, room, call-fine}
 use Rattle.calls.proofs.Paths.{step-end, paths-asked}
 
 -- what an honest device gave leaves nothing to blame
@@ -57,22 +56,22 @@ none_named p (x ∷ xs) honest blames = (
   none_named p xs (honest-second p x.exchanges (all_exchanges xs) honest) blames.1,
 )
 
-module _ {D R : Type 0} (meaning : D → Meaning R) (moves : D → Question → D → Type 0) (onward : Onward meaning moves) (sized : (d : D) → Sized (meaning d)) where
+module _ {D R M : Type 0} (store : StoreRule R M) (Keeps : Publisher → M → Type 0) (laws : IsStore store Keeps) (meaning : D → Meaning R) (moves : D → Question → D → Type 0) (onward : Onward meaning moves) (sized : (d : D) → Sized (meaning d)) where
   -- the device is asked what the rules ask
-  asks : (xs : List (Event R)) (m : Mounted) (d : D) (n : Mounted) (e : D) → Used meaning moves m d xs n e → map (λ x. x.question) (all_exchanges xs) ≡ rules_ask (meaning d) m xs
+  asks : (xs : List (Event R)) (m : Mounted M) (d : D) (n : Mounted M) (e : D) → Used store meaning moves m d xs n e → map (λ x. x.question) (all_exchanges xs) ≡ rules_ask store (meaning d) m xs
   asks [] m d n e used = refl
   asks (x ∷ xs) m d n e (k, f, step, rest) =
-      let program = mount {R = R} m x.call in
-      let end = step-end meaning moves onward m d x k f step in
+      let program = mount {R = R} store m x.call in
+      let end = step-end store meaning moves onward m d x k f step in
       map-append (λ y. y.question) x.exchanges (all_exchanges xs)
       ∙ ap₂ (λ a b. a ++ b) (ap (map (λ y. y.question)) step.exchanged ∙ questions-asked program (meaning d))
-      (asks xs k f n e rest ∙ ap₂ (λ w j. rules_ask w j xs) end.1 (ap (λ (r : Reply (StorageFault R) × Mounted). r.1) end.0))
+      (asks xs k f n e rest ∙ ap₂ (λ w j. rules_ask store w j xs) end.1 (ap (λ (r : Reply (StorageFault R) × Mounted M). r.1) end.0))
 
   -- and goes along its questions
-  goes : (xs : List (Event R)) (m : Mounted) (d : D) (n : Mounted) (e : D) → Used meaning moves m d xs n e → Along moves d (map (λ x. x.question) (all_exchanges xs)) e
+  goes : (xs : List (Event R)) (m : Mounted M) (d : D) (n : Mounted M) (e : D) → Used store meaning moves m d xs n e → Along moves d (map (λ x. x.question) (all_exchanges xs)) e
   goes [] m d n e used = used.1
   goes (x ∷ xs) m d n e (k, f, step, rest) =
-      let program = mount {R = R} m x.call in
+      let program = mount {R = R} store m x.call in
       let here : Along moves d (map (λ y. y.question) x.exchanges) f =
       subst (λ qs. Along moves d qs f) (sym (ap (map (λ y. y.question)) step.exchanged ∙ questions-asked program (meaning d))) (ran-along meaning moves onward program d (x.reply, k) f step.ran) in
       subst (λ qs. Along moves d qs e) (sym (map-append (λ y. y.question) x.exchanges (all_exchanges xs)))
@@ -80,29 +79,30 @@ module _ {D R : Type 0} (meaning : D → Meaning R) (moves : D → Question → 
 
   module _ (p : Publisher) (whole : Whole p) (limits : within p.shape ≡ true) where
     -- where no twin is given, each reply is the image's or a storage fault with a block to blame
-    fine : (xs : List (Event R)) (m : Mounted) (d : D) (n : Mounted) (e : D) (s : State) → Used meaning moves m d xs n e → IsTold p m.label → AllRight p m.table → Fits (image_length p.shape) m.state → m.state ≡ s
-        → NoTwin p (all_exchanges xs) → Agrees p s xs × AllByRecursion (λ x. IfSome (named x.reply.answer) (IsToBlame p x.exchanges)) xs
-    fine [] m d n e s used told right fits is none = (tt, tt)
-    fine (x ∷ xs) m d n e s (k, f, step, rest) told right fits is none =
-        let end = step-end meaning moves onward m d x k f step in
-        let quiet : NoTwin p (exchanges (meaning d) (mount m x.call)) = subst (NoTwin p) step.exchanged (none-first p x.exchanges (all_exchanges xs) none) in
-        let ends : Fine p m.state x.call x.reply k x.exchanges =
-        subst (Fine p m.state x.call x.reply k) (sym step.exchanged)
-        (subst (λ (r : Reply (StorageFault R) × Mounted). Fine p m.state x.call r.0 r.1 (exchanges (meaning d) (mount m x.call))) (sym end.0) (call-fine p whole limits x.call (meaning d) (sized d) m told right fits quiet)) in
-        let later = fine xs k f n e (image_state p s x.call x.reply) rest ends.told ends.right ends.fits (ends.state ∙ ap (λ t. image_state p t x.call x.reply) is) (none-second p x.exchanges (all_exchanges xs) none) in (
+    fine : (xs : List (Event R)) (m : Mounted M) (d : D) (n : Mounted M) (e : D) (s : State) → Used store meaning moves m d xs n e → IsHis Keeps p m → m.state ≡ s → NoTwin p (all_exchanges xs)
+        → Agrees p s xs × AllByRecursion (λ x. IfSome (named x.reply.answer) (IsToBlame p x.exchanges)) xs
+    fine [] m d n e s used his is none = (tt, tt)
+    fine (x ∷ xs) m d n e s (k, f, step, rest) his is none =
+        let end = step-end store meaning moves onward m d x k f step in
+        let quiet : NoTwin p (exchanges (meaning d) (mount store m x.call)) = subst (NoTwin p) step.exchanged (none-first p x.exchanges (all_exchanges xs) none) in
+        let ends : Fine Keeps p m.state x.call x.reply k x.exchanges =
+        subst (Fine Keeps p m.state x.call x.reply k) (sym step.exchanged)
+        (subst (λ (r : Reply (StorageFault R) × Mounted M). Fine Keeps p m.state x.call r.0 r.1 (exchanges (meaning d) (mount store m x.call))) (sym end.0)
+        (call-fine store Keeps laws p whole limits x.call (meaning d) (sized d) m his quiet)) in
+        let later = fine xs k f n e (image_state p s x.call x.reply) rest ends.his (ends.state ∙ ap (λ t. image_state p t x.call x.reply) is) (none-second p x.exchanges (all_exchanges xs) none) in (
           (subst (λ t. IsSome (named x.reply.answer) ⊎ (x.reply ≡ image_reply p t x.call)) is ends.agrees, later.0),
           (ends.blames, later.1),
         )
 
-  pub law_of_runs_lem : LawOfRuns meaning moves
+  pub law_of_runs_lem : LawOfRuns store meaning moves
   law_of_runs_lem p whole limits d e xs n used =
-      let start = made (Some (anchor_of p)) in
-      let all = fine p whole limits xs start d n e fresh used refl (tt, (tt, (tt, (tt, tt)))) tt refl in
+      let start = made store (Some (anchor_of p)) in
+      let all = fine p whole limits xs start d n e fresh used (record { told = refl; keeps = laws.begins p; fits = tt }) refl in
       record {
         agrees = λ none. (all none).0;
         asked = asks xs start d n e used;
         moved = goes xs start d n e used;
-        paths = paths-asked meaning moves onward (anchor_of p) (omega (arith, whole.sound.wide)) whole.sound.bytes (room p limits) xs start d n e used refl tt;
+        paths = paths-asked store meaning moves onward laws.paths (anchor_of p) (omega (arith, whole.sound.wide)) whole.sound.bytes (room p limits) xs start d n e used refl tt;
         honest = λ honest. none_named p xs honest (all (no_twin p (all_exchanges xs) honest)).1;
         blamed = λ none. (all none).1;
       }
@@ -114,7 +114,7 @@ module _ {D R : Type 0} (meaning : D → Meaning R) (moves : D → Question → 
       let here : x.reply ≡ image_reply p s x.call = elim agrees.0 [ inl fault ↦ absurd (false≢true (sym (ap is_some none.0) ∙ fault)) | inr same ↦ same ] in
       (here, is_image p xs (image_state p s x.call x.reply) agrees.1 none.1)
 
-  pub honest_is_image_lem : HonestIsImage meaning moves
+  pub honest_is_image_lem : HonestIsImage store meaning moves
   honest_is_image_lem p whole limits d e xs n used honest =
       let kept = law_of_runs_lem p whole limits d e xs n used in
       is_image p xs fresh (kept.agrees (no_twin p (all_exchanges xs) honest)) (kept.honest honest)

@@ -1,4 +1,4 @@
--- The law of runs: what holds of any use of one mount over any device.
+-- The law of runs: what holds of any use of one mount, over any store and any device.
 use Rattle.std.specs.Prelude.{◌≡◌, true, ◌⊎◌, List, [], ◌∷◌, ◌++◌, map, Some, None, IsSome, IfSome}
 use Rattle.std.specs.List.{AllByRecursion}
 use Rattle.device.specs.declared.question.Question.{Question}
@@ -10,6 +10,7 @@ use Rattle.layers.specs.declared.fault.StorageFault.{StorageFault}
 use Rattle.layers.specs.Anchor.{Anchor}
 use Rattle.layers.specs.Publisher.{Publisher, Whole, anchor_of, Differs, NoTwin, Honest}
 use Rattle.layers.specs.Judged.{IsFor, WasRefused}
+use Rattle.layers.specs.Store.{StoreRule}
 use Rattle.calls.specs.Calls.{Call, State, Reply, fresh, state_of}
 use Rattle.calls.specs.Mount.{Mounted, made, mount}
 use Rattle.calls.specs.Image.{image_reply, image_state, named}
@@ -22,14 +23,14 @@ pub record Event (R : Type 0) : Type 0 where
   pub exchanges : List (Exchange R)
 
 -- a call takes a mount over a device to another value over another, as its rules ask
-pub record Step {D R : Type 0} (meaning : D → Meaning R) (moves : D → Question → D → Type 0) (m : Mounted) (d : D) (x : Event R) (n : Mounted) (e : D) : Type 0 where
-  pub ran : Ran meaning moves d (mount m x.call) (x.reply, n) e
-  pub exchanged : x.exchanges ≡ exchanges (meaning d) (mount m x.call)
+pub record Step {D R M : Type 0} (store : StoreRule R M) (meaning : D → Meaning R) (moves : D → Question → D → Type 0) (m : Mounted M) (d : D) (x : Event R) (n : Mounted M) (e : D) : Type 0 where
+  pub ran : Ran meaning moves d (mount store m x.call) (x.reply, n) e
+  pub exchanged : x.exchanges ≡ exchanges (meaning d) (mount store m x.call)
 
 -- a use: one call after another, the first of them first
-abbrev pub Used : {D R : Type 0} → (D → Meaning R) → (D → Question → D → Type 0) → Mounted → D → List (Event R) → Mounted → D → Type 0
-Used meaning moves m d [] n e = (n ≡ m) × (e ≡ d)
-Used {D = D} meaning moves m d (x ∷ xs) n e = (k : Mounted) × (f : D) × Step meaning moves m d x k f × Used meaning moves k f xs n e
+abbrev pub Used : {D R M : Type 0} → StoreRule R M → (D → Meaning R) → (D → Question → D → Type 0) → Mounted M → D → List (Event R) → Mounted M → D → Type 0
+Used store meaning moves m d [] n e = (n ≡ m) × (e ≡ d)
+Used {D = D} {M = M} store meaning moves m d (x ∷ xs) n e = (k : Mounted M) × (f : D) × Step store meaning moves m d x k f × Used store meaning moves k f xs n e
 
 -- all that the device was asked and answered
 abbrev pub all_exchanges : {R : Type 0} → List (Event R) → List (Exchange R)
@@ -37,9 +38,11 @@ all_exchanges [] = []
 all_exchanges (x ∷ xs) = x.exchanges ++ all_exchanges xs
 
 -- the questions that the rules ask of a device of this meaning for some calls
-abbrev pub rules_ask : {R : Type 0} → Meaning R → Mounted → List (Event R) → List Question
-rules_ask meaning m [] = []
-rules_ask meaning m (x ∷ xs) = asked meaning (mount m x.call) ++ rules_ask (after meaning (asked meaning (mount m x.call))) (result meaning (mount m x.call)).1 xs
+abbrev pub rules_ask : {R M : Type 0} → StoreRule R M → Meaning R → Mounted M → List (Event R) → List Question
+rules_ask store meaning m [] = []
+rules_ask store meaning m (x ∷ xs) =
+    let call = mount store m x.call in
+    asked meaning call ++ rules_ask store (after meaning (asked meaning call)) (result meaning call).1 xs
 
 -- the exchanges of each call are paths of its fetches
 abbrev pub PathsAsked : {R : Type 0} → Anchor → State → List (Event R) → Type 0
@@ -55,12 +58,12 @@ Agrees p s (x ∷ xs) = (IsSome (named x.reply.answer) ⊎ (x.reply ≡ image_re
 abbrev pub IsToBlame : {R : Type 0} → Publisher → List (Exchange R) → Place → Type 0
 IsToBlame {R = R} p xs place = Somewhere (λ x. IsFor p.shape place x × (((refusal : R) × WasRefused p refusal x) ⊎ Differs p x)) xs
 
-pub record Kept {D R : Type 0} (meaning : D → Meaning R) (moves : D → Question → D → Type 0) (p : Publisher) (d : D) (xs : List (Event R)) (e : D) : Type 0 where
+pub record Kept {D R M : Type 0} (store : StoreRule R M) (meaning : D → Meaning R) (moves : D → Question → D → Type 0) (p : Publisher) (d : D) (xs : List (Event R)) (e : D) : Type 0 where
   -- unless a twin was given, each answer is a storage fault or equals the image's, with every byte of its buffer and the
   -- place of a refusal
   pub agrees : NoTwin p (all_exchanges xs) → Agrees p fresh xs
   -- the device was asked what the rules ask, in their order, and nothing else
-  pub asked : map (λ x. x.question) (all_exchanges xs) ≡ rules_ask (meaning d) (made (Some (anchor_of p))) xs
+  pub asked : map (λ x. x.question) (all_exchanges xs) ≡ rules_ask store (meaning d) (made store (Some (anchor_of p))) xs
   pub moved : Along moves d (map (λ x. x.question) (all_exchanges xs)) e
   -- for each fetch of a call that was one path after another, of data blocks in rising order, from the label's root down; only the
   -- last of a call may be cut, at the block that was refused or has another digest
@@ -72,10 +75,10 @@ pub record Kept {D R : Type 0} (meaning : D → Meaning R) (moves : D → Questi
   pub blamed : NoTwin p (all_exchanges xs) → AllByRecursion (λ x. IfSome (named x.reply.answer) (IsToBlame p x.exchanges)) xs
 
 -- for every publisher whose label a mount was made with, every use of it keeps the law, whatever the device answers
-abbrev pub LawOfRuns : {D R : Type 0} → (D → Meaning R) → (D → Question → D → Type 0) → Type 0
-LawOfRuns {D = D} {R = R} meaning moves =
-    (p : Publisher) → Whole p → within p.shape ≡ true → (d e : D) (xs : List (Event R)) (n : Mounted) → Used meaning moves (made (Some (anchor_of p))) d xs n e
-    → Kept meaning moves p d xs e
+abbrev pub LawOfRuns : {D R M : Type 0} → StoreRule R M → (D → Meaning R) → (D → Question → D → Type 0) → Type 0
+LawOfRuns {D = D} {R = R} {M = M} store meaning moves =
+    (p : Publisher) → Whole p → within p.shape ≡ true → (d e : D) (xs : List (Event R)) (n : Mounted M) → Used store meaning moves (made store (Some (anchor_of p))) d xs n e
+    → Kept store meaning moves p d xs e
 
 -- each answer is the image's
 abbrev pub IsImage : {R : Type 0} → Publisher → State → List (Event R) → Type 0
@@ -84,7 +87,7 @@ IsImage p s (x ∷ xs) = (x.reply ≡ image_reply p s x.call) × IsImage p (imag
 
 -- over a device that gives the publisher's blocks, every answer of every use is exactly the image's: a mount that always
 -- faults, or always says that nothing is there, is none
-abbrev pub HonestIsImage : {D R : Type 0} → (D → Meaning R) → (D → Question → D → Type 0) → Type 0
-HonestIsImage {D = D} {R = R} meaning moves =
-    (p : Publisher) → Whole p → within p.shape ≡ true → (d e : D) (xs : List (Event R)) (n : Mounted) → Used meaning moves (made (Some (anchor_of p))) d xs n e
+abbrev pub HonestIsImage : {D R M : Type 0} → StoreRule R M → (D → Meaning R) → (D → Question → D → Type 0) → Type 0
+HonestIsImage {D = D} {R = R} {M = M} store meaning moves =
+    (p : Publisher) → Whole p → within p.shape ≡ true → (d e : D) (xs : List (Event R)) (n : Mounted M) → Used store meaning moves (made store (Some (anchor_of p))) d xs n e
     → Honest p (all_exchanges xs) → IsImage p fresh xs

@@ -5,4 +5,4 @@ mod law;
 mod refusal;
 
 pub use law::{honest_is_image, law_of_runs};
-pub use refusal::{MountRule, Places, Refusal};
+pub use refusal::{CallRefusal, MountRule, Places, Refusal};

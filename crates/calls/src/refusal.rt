@@ -63,6 +63,9 @@ pub enum Refusal<F> {
     Path(PathFault<F>),
 }
 
+/// Why a call of a mount was refused, over a device that refuses for a reason `R`.
+pub type CallRefusal<R> = Refusal<StorageFault<R>>;
+
 // The places of a refusal, one within the other: a component of the path, an offset of the volume, and a block of the tree
 // or the data.
 #[derive(Clone, Copy, PartialEq, Eq, Debug, Drop)]
@@ -99,7 +102,7 @@ fn volume_fault_places<R>(path: Option<usize>, fault: &VolumeFault<StorageFault<
     }
 }
 
-impl<R> Refusal<StorageFault<R>> {
+impl<R> CallRefusal<R> {
     // The number of the rule that is broken, or of the storage fault at the bottom.
     pub fn number(&self) -> u8
         ensures { result ≡ refusal_number self.now }

@@ -6,13 +6,13 @@ ghost use Rattle.tree.specs.Tree.{salted};
 use crate::fault::Fault;
 use crate::options::{Build, BuildOptions};
 use builder::{Base, BuildFault, Source, build_above, hash_blocks};
-use digest::{Digest, Sha256, Sha512};
+use digest::Digest;
 use label_text::LabelText;
 use std::alloc::Global;
 use std::fs;
 use std::fs::File;
 use std::io::Read;
-use text::Function;
+use text::with_digest;
 use thiserror::Error;
 
 // Why there is no tree.
@@ -150,11 +150,7 @@ fn write_tree(rt: &HostRuntime, name: String, tree: &[u8]) -> Result<(), Fault> 
 // The tree of an image, by the digest that is asked for.
 fn build_image(rt: &HostRuntime, options: &BuildOptions, name: &str) -> Result<Built, Fault> {
     let mut image = File::open(rt, name)?;
-    // a closure cannot be generic over the digest
-    match options.function {
-        Function::Sha256 => make(rt.alloc(), &Sha256, options, &mut image),
-        Function::Sha512 => make(rt.alloc(), &Sha512, options, &mut image),
-    }
+    with_digest!(options.function, digest => make(rt.alloc(), &digest, options, &mut image))
 }
 
 pub fn build_tree(rt: &HostRuntime, asked: Build) -> Result<(), Fault> {

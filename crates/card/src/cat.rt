@@ -1,13 +1,13 @@
 // The command `cat`: a file's bytes, if all of them are verified.
 use crate::fault::Fault;
 use crate::open_card::Card;
-use digest::{Digest, Sha256, Sha512};
+use digest::Digest;
 use mount::Mount;
 use open_files::{ContentsFault, contents};
 use std::alloc::AllocError;
 use std::io;
 use std::io::Write;
-use text::Function;
+use text::with_digest;
 
 // The whole file, before any byte of it is printed.
 fn read<H: Digest + Drop>(
@@ -26,11 +26,7 @@ fn read<H: Digest + Drop>(
 }
 
 pub fn print_file(rt: &HostRuntime, card: &Card, path: &str) -> Result<(), Fault> {
-    // a closure cannot be generic over the digest
-    let bytes = match card.label.function() {
-        Function::Sha256 => read(rt, Sha256, card, path)?,
-        Function::Sha512 => read(rt, Sha512, card, path)?,
-    };
+    let bytes = with_digest!(card.label.function(), digest => read(rt, digest, card, path)?);
     let mut out = io::writer(rt);
     out.write_all(bytes.as_slice())?;
     out.flush()?;

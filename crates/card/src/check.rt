@@ -3,14 +3,14 @@ use crate::fault::Fault;
 use crate::open_card::Card;
 use calls::Refusal;
 use device::{Area, Device};
-use digest::{Digest, Sha256, Sha512};
+use digest::Digest;
 use layers::{Place, StorageFault};
 use media::{Memory, Outside};
 use mount::Mount;
 use open_files::{ContentsFault, Listed, contents, entry_at};
 use std::alloc::{AllocError, Global};
 use std::collections::BTreeSet;
-use text::Function;
+use text::with_digest;
 use verity::Verity;
 use volume::{Kind, PathFault, PathRule};
 
@@ -218,11 +218,7 @@ fn check<H: Digest + Drop + Copy>(
 }
 
 pub fn check_card(rt: &HostRuntime, card: &Card) -> Result<(), Fault> {
-    // a closure cannot be generic over the digest
-    let report = match card.label.function() {
-        Function::Sha256 => check(rt, Sha256, card)?,
-        Function::Sha512 => check(rt, Sha512, card)?,
-    };
+    let report = with_digest!(card.label.function(), digest => check(rt, digest, card)?);
     println!(rt;
         "blocks: {} sound, {} refused",
         report.blocks.sound, report.blocks.refused

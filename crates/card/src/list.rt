@@ -1,11 +1,11 @@
 // The command `ls`: a line for each entry of a directory.
 use crate::fault::Fault;
 use crate::open_card::Card;
-use digest::{Digest, Sha256, Sha512};
+use digest::Digest;
 use mount::Mount;
 use open_files::{Listed, entry_at};
 use std::{io, str};
-use text::Function;
+use text::with_digest;
 
 fn print_entry(rt: &HostRuntime, listed: &Listed) -> io::Result<()> {
     let entry = listed.entry;
@@ -34,9 +34,5 @@ fn list<H: Digest + Drop>(
 }
 
 pub fn print_list(rt: &HostRuntime, card: &Card, path: &str) -> Result<(), Fault> {
-    // a closure cannot be generic over the digest
-    match card.label.function() {
-        Function::Sha256 => list(rt, Sha256, card, path),
-        Function::Sha512 => list(rt, Sha512, card, path),
-    }
+    with_digest!(card.label.function(), digest => list(rt, digest, card, path))
 }

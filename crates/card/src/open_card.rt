@@ -1,13 +1,12 @@
 // A card for a command: its label, and as much of its image and tree as the label tells.
 use crate::fault::Fault;
-use digest::{Sha256, Sha512};
 use geometry::Geometry;
 use label_text::LabelText;
 use media::Memory;
 use std::fs::File;
 use std::io;
 use std::io::Read;
-use text::Function;
+use text::with_digest;
 use thiserror::Error;
 
 // Why the files make no card.
@@ -97,11 +96,7 @@ pub fn read_label(rt: &HostRuntime, name: String) -> Result<(LabelText, Geometry
 
 fn checked(text: &[u8]) -> Result<(LabelText, Geometry), NoCard> {
     let label = LabelText::read(text).map_err(NoCard::Label)?;
-    // a closure cannot be generic over the digest
-    let geometry = match label.function() {
-        Function::Sha256 => label.label().check(&Sha256),
-        Function::Sha512 => label.label().check(&Sha512),
-    };
+    let geometry = with_digest!(label.function(), digest => label.label().check(&digest));
     match geometry {
         Ok(geometry) => Ok((label, geometry)),
         Err(_) => Err(NoCard::Limit),

@@ -2,15 +2,15 @@
 use crate::fault::Fault;
 use crate::open_card::{Areas, Card, CardNames, Extent, read_label};
 use device::Device;
-use digest::{Digest, Sha256, Sha512};
+use digest::Digest;
 use label_text::LabelText;
-use media::{Tape, Turning};
+use media::{Counting, Tape, Turning};
 use mount::Mount;
 use open_files::OpenFiles;
-use script::{BottomRefusal, Counting};
+use script::BottomRefusal;
 use session::Session;
 use std::fs;
-use text::Function;
+use text::with_digest;
 
 #[derive(Drop)]
 pub enum Run {
@@ -54,11 +54,7 @@ fn run_over<D: Device + Drop>(rt: &HostRuntime, label: &LabelText, bottom: D) ->
 where
     D::Refusal: BottomRefusal,
 {
-    // a closure cannot be generic over the digest
-    match label.function() {
-        Function::Sha256 => answer_all(rt, Sha256, label, bottom),
-        Function::Sha512 => answer_all(rt, Sha512, label, bottom),
-    }
+    with_digest!(label.function(), digest => answer_all(rt, digest, label, bottom))
 }
 
 fn run_turning(

@@ -1,10 +1,10 @@
 -- The questions and exchanges of a program: one program and then another, and along a run.
-use Rattle.std.proofs.Common.{◌≡◌, List, [], ◌∷◌, ◌++◌, map, ap, refl, subst}
+use Rattle.std.proofs.Common.{◌≡◌, List, [], ◌∷◌, ◌++◌, map, ap, refl, sym, subst}
 use Rattle.device.specs.declared.question.Question.{Question}
 use Rattle.device.specs.Answer.{Answer}
 use Rattle.device.specs.Program.{Program, done, ask, bind, Meaning, Exchange, Sized, after, result, asked, exchanges}
 use Rattle.device.specs.Run.{Ran, Along}
-use Rattle.device.proofs.Runs.{Onward}
+use Rattle.device.proofs.Runs.{Onward, result-bind}
 
 abbrev pub at : {R : Type 0} → Question → Answer R → Exchange R
 at q answer = record { question = q; answer = answer }
@@ -52,3 +52,14 @@ module _ {R A B : Type 0} (f : A → B) where
   pub result-put : (p : Program R A) (m : Meaning R) → result m (bind p (λ a. done (f a))) ≡ f (result m p)
   result-put (done a) m = refl
   result-put (ask q next) m = result-put (next (m [] q)) (after m (q ∷ []))
+
+-- what holds of a program's value and exchanges, by those of its parts
+module _ {R A B : Type 0} (P : B → List (Exchange R) → Type 0) (p : Program R A) where
+  pub of-bind : (then : A → Program R B) (m : Meaning R)
+      → (let left = after m (asked m p) in P (result left (then (result m p))) (exchanges m p ++ exchanges left (then (result m p)))) → P (result m (bind p then)) (exchanges m (bind p then))
+  of-bind then m h =
+      let left = after m (asked m p) in
+      subst (λ b. P b (exchanges m (bind p then))) (sym (result-bind p then m)) (subst (P (result left (then (result m p)))) (sym (exchanges-bind p then m)) h)
+
+  pub of-put : (f : A → B) (m : Meaning R) → P (f (result m p)) (exchanges m p) → P (result m (bind p (λ a. done (f a)))) (exchanges m (bind p (λ a. done (f a))))
+  of-put f m h = subst (λ b. P b (exchanges m (bind p (λ a. done (f a))))) (sym (result-put f p m)) (subst (P (f (result m p))) (sym (exchanges-put f p m)) h)

@@ -1,5 +1,5 @@
 -- A layer over a device is a device: its meaning goes on by its own questions, and its answers keep their size.
-use Rattle.std.proofs.Common.{◌≡◌, [], ◌∷◌, ◌++◌, sym, subst, ap, ap₂}
+use Rattle.std.proofs.Common.{◌≡◌, [], ◌∷◌, ◌++◌, subst, ap, ap₂, ◌∙◌}
 use Rattle.device.specs.declared.question.Question.{Question}
 use Rattle.device.specs.Answer.{Answer}
 use Rattle.device.specs.Program.{Program, done, ask, Meaning, after, result, asked, Fits, Sized}
@@ -26,22 +26,28 @@ layered-sized layer Keeps each m sized s keeps [] q = (each m sized s keeps q).0
 layered-sized layer Keeps each m sized s keeps (r ∷ qs) q =
     layered-sized layer Keeps each (after m (asked m (layer s r))) (λ more. sized (asked m (layer s r) ++ more)) (result m (layer s r)).1 (each m sized s keeps r).1 qs q
 
--- a run over a layer is a run over the device below, of the program with the layer put under it. A layered device U has a
--- state and a device below
-module _ {S R Q D U : Type 0} (meaning : D → Meaning R) (moves : D → Question → D → Type 0) (onward : Onward meaning moves) (layer : S → Question → Program R (Answer Q × S)) (state : U → S) (below : U → D) where
-  pub ran-through : {A : Type 0} (p : Program Q A) (u : U) (a : A) (v : U)
-      → Ran (λ w. layered layer (state w) (meaning (below w))) (λ w q x. Through meaning moves layer (state w) (below w) q (state x) (below x)) u p a v
-      → Ran meaning moves (below u) (through layer p (state u)) (a, state v) (below v)
-  ran-through (done b) u a v ran = (ap₂ (λ x y. (x, y)) ran.0 (ap state ran.1), ap below ran.1)
-  ran-through (ask q next) u a v (w, (answer, first), rest) =
-      let is : answer ≡ layered layer (state u) (meaning (below u)) [] q = layer-answer meaning moves onward layer (state u) (below u) q answer (state w) (below w) first in
-      let later = ran-through (next (layered layer (state u) (meaning (below u)) [] q)) w a v rest in
-      ran-bind meaning moves (layer (state u) q) (λ r. through layer (next r.0) r.1) (below u) (answer, state w) (below w) (a, state v) (below v) first
-      (subst (λ x. Ran meaning moves (below w) (through layer (next x) (state w)) (a, state v) (below v)) (sym is) later)
+-- a device U that asks one below, D, by a rule: by a label, which no question changes, and by a state
+module _ {R Q L S D U : Type 0} (meaning : D → Meaning R) (moves : D → Question → D → Type 0) (rule : L → S → Question → Program R (Answer Q × S)) (label : U → L) (state : U → S) (below : U → D)
+    (above : U → Meaning Q) (steps : U → Question → U → Type 0)
+    (each : (u v : U) (q : Question) → steps u q v → Ran meaning moves (below u) (rule (label u) (state u) q) (above u [] q, state v) (below v) × (label v ≡ label u)) where
+  -- a run over it is a run over the one below, of the program with the rule put under it
+  pub ran-below : {A : Type 0} (p : Program Q A) (u : U) (a : A) (v : U) → Ran above steps u p a v
+      → Ran meaning moves (below u) (through (rule (label u)) p (state u)) (a, state v) (below v) × (label v ≡ label u)
+  ran-below (done b) u a v ran = ((ap₂ (λ x y. (x, y)) ran.0 (ap state ran.1), ap below ran.1), ap label ran.1)
+  ran-below (ask q next) u a v (w, moved, rest) =
+      let one = each u w q moved in
+      let later = ran-below (next (above u [] q)) w a v rest in (
+        ran-bind meaning moves (rule (label u) (state u) q) (λ r. through (rule (label u)) (next r.0) r.1) (below u) (above u [] q, state w) (below w) (a, state v) (below v) one.0
+            (subst (λ l. Ran meaning moves (below w) (through (rule l) (next (above u [] q)) (state w)) (a, state v) (below v)) one.1 later.0),
+        later.1 ∙ one.1,
+      )
 
-  -- so a layer over it goes through both at once
-  pub through-stacked : {T P : Type 0} (upper : T → Question → Program Q (Answer P × T)) (t : T) (u : U) (q : Question) (t' : T) (v : U)
-      → Through (λ w. layered layer (state w) (meaning (below w))) (λ w r x. Through meaning moves layer (state w) (below w) r (state x) (below x)) upper t u q t' v
-      → Through meaning moves (stacked upper layer) (t, state u) (below u) q (t', state v) (below v)
-  through-stacked upper t u q t' v (answer, ran) =
-      (answer, ran-then meaning moves (λ end. (end.0.0, (end.0.1, end.1))) (through layer (upper t q) (state u)) (below u) ((answer, t'), state v) (below v) (ran-through (upper t q) u (answer, t') v ran))
+  -- and a layer over it asks the one below by both rules
+  pub ran-stacked : {P T : Type 0} → Onward above steps → (layer : T → Question → Program Q (Answer P × T)) (t : T) (u : U) (q : Question) (next : T) (v : U) → Through above steps layer t u q next v
+      → Ran meaning moves (below u) (stacked layer (rule (label u)) (t, state u) q) (layered layer t (above u) [] q, (next, state v)) (below v) × (label v ≡ label u)
+  ran-stacked onward layer t u q next v (answer, ran) =
+      let all = ran-below (layer t q) u (answer, next) v ran in
+      let both = ran-then meaning moves (λ end. (end.0.0, (end.0.1, end.1))) (through (rule (label u)) (layer t q) (state u)) (below u) ((answer, next), state v) (below v) all.0 in (
+        subst (λ x. Ran meaning moves (below u) (stacked layer (rule (label u)) (t, state u) q) (x, (next, state v)) (below v)) (layer-answer above steps onward layer t u q answer next v ran) both,
+        all.1,
+      )

@@ -18,13 +18,7 @@ ends v (inr h) n = rw h (omega arith)
 
 pub length-padded : (v : Variant) (m : List ℕ) → length (padded v m) ≡ length m + 1 + zeros v (length m) + length_bytes v
 unfolding padded
-length-padded v m =
-    let n = length m in
-    let z = replicate (zeros v n) 0 in
-    length-append (m ++ (0x80 ∷ []) ++ z) (big_endian (length_bytes v) (8 * n))
-    ∙ ap₂ (λ x y. x + y)
-    (length-append (m ++ (0x80 ∷ [])) z ∙ ap₂ (λ x y. x + y) (length-append m (0x80 ∷ [])) (length-replicate (zeros v n) 0))
-    (length-big_endian (length_bytes v) (8 * n))
+length-padded v m = simp (length-append, length-replicate, length-big_endian)
 
 -- eight bytes hold a small number
 pub eight_bytes : (x : ℕ) (bytes : List ℕ)

@@ -7,6 +7,7 @@ ghost use Rattle.sha2_block.specs.Bytes.{big_endian};
 ghost use Rattle.sha2_block.specs.Window.{eight, sixteen};
 
 use crate::message::Message;
+use crate::padded::PADDED;
 use constants::starting_words;
 use sha2_block::{State, Word, Words, compress};
 
@@ -50,7 +51,7 @@ fn digested<W: Word>(start: State<W>, message: &Message<'_>) -> State<W>
     ensures { eight W.value result ≡ last_state W.variant (eight W.value start) (joined message.now) }
 {
     // room for the longest padded message, since there is no heap here
-    let mut buf = [0u8; 4480];
+    let mut buf = [0u8; PADDED];
     let mut state = start;
     for block in message.pad::<W>(&mut buf).chunks_exact(16 * W::size()) {
         state = compress(state, words(block));

@@ -5,11 +5,11 @@ mod answer;
 mod hash;
 mod laws;
 mod message;
-mod pad;
+mod padded;
 mod refusal;
 mod sha;
 
 pub use laws::{padding_stands, split_stands};
-pub use pad::LIMIT;
+pub use message::LIMIT;
 pub use refusal::Refusal;
 pub use sha::{Digest, Sha256, Sha512};

@@ -8,8 +8,7 @@ mod expected;
 mod walk;
 
 use card::Card;
-use digest::{Sha256, Sha512};
-use text::Function;
+use text::with_digest;
 
 // Cards that genromfs and veritysetup made.
 const CARDS: [&str; 4] = ["small1k", "mixed", "mixed512", "many"];
@@ -17,11 +16,7 @@ const CARDS: [&str; 4] = ["small1k", "mixed", "mixed512", "many"];
 fn run(rt: &HostRuntime) -> anyhow::Result<()> {
     for name in CARDS {
         let card = Card::read(rt, name)?;
-        // a closure cannot be generic over the digest
-        match card.label.function() {
-            Function::Sha256 => compare::compare_all(rt, Sha256, &card)?,
-            Function::Sha512 => compare::compare_all(rt, Sha512, &card)?,
-        }
+        with_digest!(card.label.function(), digest => compare::compare_all(rt, digest, &card)?);
     }
     Ok(())
 }

@@ -1,38 +1,28 @@
 -- What the limits say of a shape's other numbers.
 use Rattle.std.specs.Slice.{IsItemAt}
 use Rattle.std.specs.Option.{option_copied}
-use Rattle.std.proofs.Common.{Option, Bor, unwrap_or, ◌≡◌, ℕ, zero, suc, ◌+◌, ◌-◌, ◌*◌, ◌/◌, ◌^◌, ◌<◌, ◌≤◌, true, ◌&&◌, ◌||◌, eqb, leb, List, length, get_or, sym, ap, ◌∙◌, subst, inl, inr, le_trans, zero-add, arith}
+use Rattle.std.proofs.Common.{Option, Bor, unwrap_or, ◌≡◌, ℕ, zero, suc, ◌+◌, ◌-◌, ◌*◌, ◌/◌, ◌%◌, ◌^◌, ◌<◌, ◌≤◌, ◌⊎◌, true, List, length, get_or, sym, ap, ◌∙◌, subst, inl, inr, le_trans, zero-add, arith}
 use native.Mathlib.Nat.{one-le-pow, pow-le-pow_right}
 use Rattle.std.proofs.lemmas.Nat.{div_below, le-div, mul-le}
 use Rattle.std.proofs.lemmas.List.FromFn.{get_or-map-range_with_len, length-map-range_with_len}
 use Rattle.std.proofs.lemmas.List.{get_or_past}
-use Rattle.std.proofs.lemmas.Bool.{and_parts, cases_lt, or_cases, eqb-true, leb-true}
+use Rattle.std.proofs.lemmas.Bool.{cases_lt}
+use Rattle.std.proofs.lemmas.Bool.Decides.{nat_tests}
 use Rattle.tree.specs.Shape.{Shape, fanout, levels, width, blocks_from, start, tree_blocks}
 use Rattle.tree.proofs.Levels.{levels_stand_lem}
 use Rattle.geometry.specs.declared.geometry.Geometry.{Geometry}
 use Rattle.geometry.specs.Of.{shape_of}
-use Rattle.geometry.specs.Limits.{is_block_size, is_count, is_slot, within, starts}
+use Rattle.geometry.specs.Limits.{is_block_size, within, starts}
 use Rattle.geometry.proofs.Counting.{at_most_seven, rounded_le}
 
-block_sizes : (n : ℕ) → is_block_size n ≡ true → (512 ≤ n) × (n ≤ 4096)
-block_sizes n h =
-    elim (or_cases (eqb n 512 || eqb n 1024 || eqb n 2048) (eqb n 4096) h) [
-      | inr e ↦ let is = eqb-true n 4096 e in (omega arith, omega arith)
-      | inl h₁ ↦ elim (or_cases (eqb n 512 || eqb n 1024) (eqb n 2048) h₁) [
-        | inr e ↦ let is = eqb-true n 2048 e in (omega arith, omega arith)
-        | inl h₂ ↦ elim (or_cases (eqb n 512) (eqb n 1024) h₂) [
-          | inr e ↦ let is = eqb-true n 1024 e in (omega arith, omega arith)
-          | inl e ↦ let is = eqb-true n 512 e in (omega arith, omega arith)
-        ]
-      ]
-    ]
+-- the sizes of a block
+sizes : (n : ℕ) → is_block_size n ≡ true → (512 ≤ n) × (n ≤ 4096) × (n % 64 ≡ 0)
+sizes n h = grind (arith, nat_tests)
 
-quotient : (n l : ℕ) → 512 ≤ n → n ≤ 4096 → is_slot l ≡ true → (8 ≤ n / l) × (n / l ≤ 128)
-quotient n l low high h =
-    elim (or_cases (eqb l 32) (eqb l 64) h) [
-      | inl e ↦ subst (λ k. (8 ≤ n / k) × (n / k ≤ 128)) (sym (eqb-true l 32 e)) (omega arith, omega arith)
-      | inr e ↦ subst (λ k. (8 ≤ n / k) × (n / k ≤ 128)) (sym (eqb-true l 64 e)) (omega arith, omega arith)
-    ]
+-- the slots of a block
+quotient : (n l : ℕ) → 512 ≤ n → n ≤ 4096 → n % 64 ≡ 0 → (l ≡ 32) ⊎ (l ≡ 64) → (8 ≤ n / l) × (n / l ≤ 128) × (n / l * l ≡ n)
+quotient n l low high even (inl is) = subst (λ k. (8 ≤ n / k) × (n / k ≤ 128) × (n / k * k ≡ n)) (sym is) (omega arith, omega arith, omega arith)
+quotient n l low high even (inr is) = subst (λ k. (8 ≤ n / k) × (n / k ≤ 128) × (n / k * k ≡ n)) (sym is) (omega arith, omega arith, omega arith)
 
 -- a shape within the limits
 pub record Bounds (s : Shape) : Type 0 where
@@ -44,28 +34,26 @@ pub record Bounds (s : Shape) : Type 0 where
   pub few : s.blocks ≤ 1048576
   pub wide : 8 ≤ fanout s
   pub narrow : fanout s ≤ 128
+  pub filled : fanout s * s.slot ≡ s.hash_block
   pub low : levels s ≤ 7
 
 pub bounds : (s : Shape) → within s ≡ true → Bounds s
 bounds s h =
-    let a = and_parts (is_block_size s.data_block && is_block_size s.hash_block && is_count s.blocks) (is_slot s.slot) h in
-    let b = and_parts (is_block_size s.data_block && is_block_size s.hash_block) (is_count s.blocks) a.0 in
-    let c = and_parts (is_block_size s.data_block) (is_block_size s.hash_block) b.0 in
-    let d = and_parts (leb 1 s.blocks) (leb s.blocks 1048576) b.1 in
-    let data_sizes = block_sizes s.data_block c.0 in
-    let hash_sizes = block_sizes s.hash_block c.1 in
-    let fan = quotient s.hash_block s.slot hash_sizes.0 hash_sizes.1 a.1 in
-    let few : s.blocks ≤ 1048576 = leb-true s.blocks 1048576 d.1 in
+    let parts : (is_block_size s.data_block ≡ true) × (is_block_size s.hash_block ≡ true) × (1 ≤ s.blocks) × (s.blocks ≤ 1048576) × ((s.slot ≡ 32) ⊎ (s.slot ≡ 64)) = grind (arith, nat_tests) in
+    let low = sizes s.data_block parts.0 in
+    let high = sizes s.hash_block parts.1 in
+    let fan = quotient s.hash_block s.slot high.0 high.1 high.2 parts.4 in
     record {
-      data_low = data_sizes.0;
-      data_high = data_sizes.1;
-      hash_low = hash_sizes.0;
-      hash_high = hash_sizes.1;
-      some = leb-true 1 s.blocks d.0;
-      few = few;
+      data_low = low.0;
+      data_high = low.1;
+      hash_low = high.0;
+      hash_high = high.1;
+      some = parts.2;
+      few = parts.3;
       wide = fan.0;
       narrow = fan.1;
-      low = at_most_seven (fanout s) s.blocks (levels s) fan.0 few (levels_stand_lem (fanout s) s.blocks (omega (arith, fan.0))).1;
+      filled = fan.2;
+      low = at_most_seven (fanout s) s.blocks (levels s) fan.0 parts.3 (levels_stand_lem (fanout s) s.blocks (omega (arith, fan.0))).1;
     }
 
 -- and so every geometry's

@@ -9,3 +9,4 @@ pub mod Walking
 pub mod Rows
 pub mod Keeping
 pub mod Caching
+pub mod Stores

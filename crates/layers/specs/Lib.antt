@@ -8,3 +8,4 @@ pub mod Judged
 pub mod Laws
 pub mod Cache
 pub mod CacheLaws
+pub mod Store

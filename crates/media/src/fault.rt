@@ -5,7 +5,7 @@ ghost use Rattle.media.specs.Fault.{outside_number, outside_text, spent_number, 
 use device::Area;
 use std::fmt;
 
-// The block does not lie whole in its area, or no byte was asked for.
+/// The block does not lie whole in its area, or no byte was asked for.
 #[derive(Clone, Copy, PartialEq, Eq, Debug)]
 pub struct Outside {
     pub area: Area,
@@ -34,7 +34,7 @@ impl fmt::Display for Outside {
     }
 }
 
-// So many bytes are not left on the tape, or no byte was asked for.
+/// So many bytes are not left on the tape, or no byte was asked for.
 #[derive(Clone, Copy, PartialEq, Eq, Debug)]
 pub struct Spent {
     pub area: Area,

@@ -7,6 +7,8 @@ ghost use Rattle.media.specs.Sizes.{memory-sized};
 use crate::fault::Outside;
 use device::{Area, Device};
 
+/// For a buffer of n bytes, block b of an area is the n bytes from byte b × n of the area on. A block that is not all
+/// there is refused, and one of no byte.
 #[derive(Clone, Copy)]
 pub struct Memory<'a> {
     pub data: &'a [u8],

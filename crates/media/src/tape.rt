@@ -7,6 +7,7 @@ ghost use Rattle.media.specs.Sizes.{tape-sized};
 use crate::fault::Spent;
 use device::{Area, Device};
 
+/// A refused question uses no bytes.
 #[derive(Clone, Copy)]
 pub struct Tape<'a> {
     bytes: &'a [u8],
@@ -14,7 +15,7 @@ pub struct Tape<'a> {
 }
 
 impl<'a> Tape<'a> {
-    // A tape of which nothing is used yet.
+    /// A tape of which nothing is used yet.
     pub fn new(bytes: &'a [u8]) -> Tape<'a>
         ensures bytes { result.bytes.now ≡ bytes.now }
         ensures used { result.used ≡ 0 }
@@ -22,7 +23,7 @@ impl<'a> Tape<'a> {
         Tape { bytes, used: 0 }
     }
 
-    // How many bytes are used.
+    /// How many bytes are used.
     pub fn used(&self) -> usize
         ensures { result ≡ self.now.used }
     {

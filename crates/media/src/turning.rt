@@ -9,11 +9,12 @@ use crate::fault::Outside;
 use crate::memory::Memory;
 use device::{Area, Device};
 
+/// The first memory answers as many questions as are left to it, refused ones among them, and the second those after.
 #[derive(Clone, Copy)]
 pub struct Turning<'a> {
     pub first: Memory<'a>,
     pub second: Memory<'a>,
-    // How many questions the first still answers.
+    /// How many questions the first still answers.
     pub left: u64,
 }
 

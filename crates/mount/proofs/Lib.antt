@@ -1,4 +1,3 @@
-pub mod Stacking
 pub mod Stepping
-pub mod Laws
 pub mod Premises
+pub mod Laws

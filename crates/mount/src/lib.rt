@@ -1,8 +1,8 @@
-// A verified mount over any device.
+// A verified mount over any store, and the one over a cache over the path check over any device.
 #![tactic(auto)]
 
-mod calling;
-mod making;
+mod cached;
 mod mount;
 
-pub use mount::Mount;
+pub use cached::Mount;
+pub use mount::MountOver;

@@ -10,7 +10,7 @@ use Rattle.calls.specs.Mount.{image_length, made, mount}
 use Rattle.device.specs.Program.{asked, result}
 use Rattle.images.specs.Reading.{reply, begun}
 use Rattle.images.specs.Volumes.{v, file_a, one}
-use Rattle.mount_cases.specs.Cards.{giving}
+use Rattle.mount_cases.specs.Cards.{giving, cached}
 
 -- refused by a rule of the mount, with a buffer of n zeros
 abbrev pub refused : MountRule → ℕ → Reply ℕ
@@ -73,8 +73,8 @@ pub record CallCases : Type 0 where
   pub close_another : reply v (one v) (close past_the_end) ≡ record { answer = Ok closed; buffer = [] }
   pub close_unheld : reply v (begun v) (close file_a) ≡ refused Handle 0
   -- with a label that was refused each call is, and nothing is asked
-  pub label_begin : (result (giving 512 v) (mount (made None) begin)).0.answer ≡ Err (Mount Label)
-  pub label_before_begun : (result (giving 512 v) (mount (made None) (close file_a))).0.answer ≡ Err (Mount Label)
-  pub label_asks : asked (giving 512 v) (mount (made None) begin) ≡ []
+  pub label_begin : (result (giving 512 v) (mount cached (made cached None) begin)).0.answer ≡ Err (Mount Label)
+  pub label_before_begun : (result (giving 512 v) (mount cached (made cached None) (close file_a))).0.answer ≡ Err (Mount Label)
+  pub label_asks : asked (giving 512 v) (mount cached (made cached None) begin) ≡ []
   -- an image is its data blocks
   pub image_bytes : image_length (record { data_block = 512; hash_block = 1024; blocks = 3; slot = 32 }) ≡ 1536

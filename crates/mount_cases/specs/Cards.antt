@@ -5,9 +5,11 @@ use Rattle.device.specs.declared.question.Question.{Question}
 use Rattle.device.specs.Program.{Meaning, result}
 use Rattle.tree.specs.Tree.{block_of}
 use Rattle.layers.specs.Anchor.{Anchor}
+use Rattle.layers.specs.Cache.{Table}
 use Rattle.layers.specs.Publisher.{Publisher, anchor_of}
+use Rattle.layers.specs.Store.{StoreRule, path_check}
 use Rattle.calls.specs.Calls.{begin}
-use Rattle.calls.specs.Mount.{Mounted, made, mount}
+use Rattle.calls.specs.Mount.{Mounted, cached_check, made, mount}
 use Rattle.images.specs.Volumes.{v}
 
 -- the questions for n bytes of block k of each area
@@ -31,11 +33,21 @@ all_but k n image qs q = cond (q.block == k) (Err 7) (giving n image qs q)
 abbrev pub card_of_v : Publisher
 card_of_v = record { salted = λ bytes. []; size = 0; shape = record { data_block = 512; hash_block = 512; blocks = 1; slot = 32 }; image = v }
 
-abbrev pub mount_of_v : Mounted
-mount_of_v = made (Some (anchor_of card_of_v))
+abbrev pub cached : StoreRule ℕ (Table × Unit {0})
+cached = cached_check ℕ
 
-abbrev pub begun_mount : Mounted
-begun_mount = (result (giving 512 v) (mount mount_of_v begin)).1
+abbrev pub mount_of_v : Mounted (Table × Unit {0})
+mount_of_v = made cached (Some (anchor_of card_of_v))
+
+abbrev pub begun_mount : Mounted (Table × Unit {0})
+begun_mount = (result (giving 512 v) (mount cached mount_of_v begin)).1
+
+-- the same mount over the path check alone
+abbrev pub alone : StoreRule ℕ (Unit {0})
+alone = path_check ℕ
+
+abbrev pub begun_alone : Mounted (Unit {0})
+begun_alone = (result (giving 512 v) (mount alone (made alone (Some (anchor_of card_of_v))) begin)).1
 
 -- a card of 129 blocks of one byte, the last of which is 7 and each other 5, under tree blocks of 128 slots of one byte. The
 -- digest of a block is its first byte

@@ -8,7 +8,7 @@ use Rattle.calls.specs.Calls.{Call, begin, open_file, read, list, close, call_ru
 use Rattle.calls.specs.Mount.{mount}
 use Rattle.images.specs.Reading.{begun}
 use Rattle.images.specs.Volumes.{v, file_a}
-use Rattle.mount_cases.specs.Cards.{data_of, refusing, giving, all_but, mount_of_v, begun_mount}
+use Rattle.mount_cases.specs.Cards.{data_of, refusing, giving, all_but, cached, mount_of_v, begun_mount, alone, begun_alone}
 
 -- three blocks of four bytes
 abbrev pub twelve : List ℕ
@@ -40,10 +40,14 @@ pub record FetchCases : Type 0 where
   pub refused : result (all_but 1 4 twelve) (fetch_blocks 4 3 6) ≡ Err 7
   pub none_after : asked (all_but 1 4 twelve) (fetch_blocks 4 3 6) ≡ data_of 4 0 ∷ data_of 4 1 ∷ []
   -- of V, begin asks for its block, and begin again, a list and a read ask nothing, as the cache has it
-  pub begin_asks : asked (giving 512 v) (mount mount_of_v begin) ≡ data_of 512 0 ∷ []
-  pub begin_again_asks : asked (giving 512 v) (mount begun_mount begin) ≡ []
-  pub list_asks : asked (giving 512 v) (mount begun_mount (list [] 0 128)) ≡ []
-  pub read_asks : asked (giving 512 v) (mount begun_mount (read file_a 0 3)) ≡ []
+  pub begin_asks : asked (giving 512 v) (mount cached mount_of_v begin) ≡ data_of 512 0 ∷ []
+  pub begin_again_asks : asked (giving 512 v) (mount cached begun_mount begin) ≡ []
+  pub list_asks : asked (giving 512 v) (mount cached begun_mount (list [] 0 128)) ≡ []
+  pub read_asks : asked (giving 512 v) (mount cached begun_mount (read file_a 0 3)) ≡ []
+  -- over the path check alone each fetch asks anew; the start is still remembered
+  pub alone_begin_again_asks : asked (giving 512 v) (mount alone begun_alone begin) ≡ []
+  pub alone_list_asks : asked (giving 512 v) (mount alone begun_alone (list [] 0 128)) ≡ data_of 512 0 ∷ []
+  pub alone_read_asks : asked (giving 512 v) (mount alone begun_alone (read file_a 0 3)) ≡ data_of 512 0 ∷ []
   -- without a cache: begin again, a path with a bad component, a wrong length, a read of no bytes and a close fetch nothing
   pub begin_again_fetches : first_of begin ≡ []
   pub bad_path_fetches : first_of (open_file (codes "a/.")) ≡ []

@@ -6,9 +6,8 @@ use builder::{Source, build};
 use device::{Area, Device};
 use digest::{Digest, Sha256};
 use geometry::{Geometry, Label};
-use media::Memory;
+use media::{Counting, Memory};
 use mount::Mount;
-use script::Counting;
 use std::alloc::Global;
 
 // Bytes of a tree block.

@@ -1,2 +1,3 @@
 pub mod Closing
 pub mod Names
+pub mod Unread

@@ -6,9 +6,8 @@ use crate::faults::{FileFault, NotOpen, OpenFault, Opened};
 use crate::files::{OpenFile, OpenFiles};
 use crate::own::give_back;
 use calls::Refusal;
-use device::Device;
-use digest::Digest;
-use layers::StorageFault;
+use device::wipe;
+use layers::{RefusalBelow, Store};
 use volume::{Entry, Start};
 
 // Leaves zeros in the buffer of a call for a file that is not open.
@@ -16,7 +15,7 @@ fn not_open<R>(buf: &mut [u8]) -> FileFault<R>
     ensures zeros { buf.new ≡ replicate (length buf.old) 0 }
     ensures fault { result ≡ fault.NotOpen }
 {
-    buf.fill(0);
+    wipe(buf);
     FileFault::NotOpen
 }
 
@@ -33,16 +32,16 @@ fn put_back(files: &mut Vec<OpenFile>, i: usize, file: OpenFile)
     }
 }
 
-impl<H: Digest, D: Device> OpenFiles<H, D> {
+impl<S: Store> OpenFiles<S> {
     ghost use Rattle.std.specs.Prelude.{◌≡◌, [], ◌<◌, IfSome, OnErr, OnOk, length, replicate, vec_len};
     ghost use Rattle.calls.specs.Calls as calls_of;
-    ghost use Rattle.mount.specs.Mount.{replied};
-    ghost use Rattle.open_files.specs.Files.{Keeps, files_of, opened_of, place_of, without};
-    ghost use Rattle.open_files.specs.Steps.{AsksFor, NoneOpen, Opens, Stepped, SteppedFor, accepted};
+    ghost use Rattle.mount.specs.Mount.{Called, replied};
+    ghost use Rattle.open_files.specs.Files.{Keeps, files_of, mount_of, opened_of, place_of, without};
+    ghost use Rattle.open_files.specs.Steps.{AsksFor, CalledFor, NoneOpen, Opens, accepted};
 
     /// The mount's `begin`: the volume's size and the offset of its first header, or the mount's refusal (2, 10, 11, 20 to 23).
-    pub fn begin(&mut self) -> Result<Start, Refusal<StorageFault<D::Refusal>>>
-        ensures step { Stepped D.meaning D.moves self.old calls_of.begin (replied calls_of.started [] result) self.new }
+    pub fn begin(&mut self) -> Result<Start, Refusal<S::Refusal>>
+        ensures step { Called (mount_of self.old) calls_of.begin (replied calls_of.started [] result) (mount_of self.new) }
         ensures kept { Keeps self.old self.new }
     {
         self.mount.begin()
@@ -55,8 +54,8 @@ impl<H: Digest, D: Device> OpenFiles<H, D> {
         path: &[u8],
         index: usize,
         buf: &mut [u8],
-    ) -> Result<Entry, Refusal<StorageFault<D::Refusal>>>
-        ensures step { Stepped D.meaning D.moves self.old (calls_of.list path.now index (length buf.old)) (replied calls_of.listed buf.new result) self.new }
+    ) -> Result<Entry, Refusal<S::Refusal>>
+        ensures step { Called (mount_of self.old) (calls_of.list path.now index (length buf.old)) (replied calls_of.listed buf.new result) (mount_of self.new) }
         ensures zeros { OnErr result (buf.new ≡ replicate (length buf.old) 0) }
         ensures kept { Keeps self.old self.new }
     {
@@ -65,8 +64,8 @@ impl<H: Digest, D: Device> OpenFiles<H, D> {
 
     /// Opens the file that a path names, and keeps it by the number of accepted opens before it. Refused as the mount's `open`
     /// is (2, 54, 53, 40, and those of the walk), or where there is no memory to keep one more file.
-    pub fn open(&mut self, path: &[u8]) -> Result<Opened, OpenFault<D::Refusal>>
-        ensures step { Opens D.meaning D.moves self.old path.now result self.new }
+    pub fn open(&mut self, path: &[u8]) -> Result<Opened, OpenFault<RefusalBelow<S>>>
+        ensures step { Opens self.old path.now result self.new }
     {
         if self.files.reserve(1).is_err() {
             return Err(OpenFault::Memory);
@@ -99,17 +98,17 @@ impl<H: Digest, D: Device> OpenFiles<H, D> {
     pub fn read(
         &mut self,
         number: usize,
-        from: usize,
+        offset: usize,
         buf: &mut [u8],
-    ) -> Result<usize, FileFault<D::Refusal>>
-        ensures step { AsksFor D.meaning D.moves self.old number (λ file. calls_of.read file from (length buf.old)) (λ c. calls_of.count c) buf.new result self.new }
+    ) -> Result<usize, FileFault<RefusalBelow<S>>>
+        ensures step { AsksFor self.old number (λ file. calls_of.read file offset (length buf.old)) (λ c. calls_of.count c) buf.new result self.new }
         ensures zeros { OnErr result (buf.new ≡ replicate (length buf.old) 0) }
         ensures kept { Keeps self.old self.new }
     {
         let Some(i) = self.find(number) else {
             return Err(not_open(buf));
         };
-        match self.mount.read(&self.files[i].handle, from, buf) {
+        match self.mount.read(&self.files[i].handle, offset, buf) {
             Ok(count) => Ok(count),
             Err(refusal) => Err(FileFault::Refused(refusal)),
         }
@@ -117,8 +116,8 @@ impl<H: Digest, D: Device> OpenFiles<H, D> {
 
     /// Reads the file of a number into a buffer of its size, as the mount's `whole` does, and closes it. Refused where no such
     /// file is open, or as the mount's is (2, 54, 50, 52, 10, 11); it then stays open, and the buffer has zeros alone.
-    pub fn whole(&mut self, number: usize, buf: &mut [u8]) -> Result<(), FileFault<D::Refusal>>
-        ensures step { AsksFor D.meaning D.moves self.old number (λ file. calls_of.whole file (length buf.old)) (λ none. calls_of.all) buf.new result self.new }
+    pub fn whole(&mut self, number: usize, buf: &mut [u8]) -> Result<(), FileFault<RefusalBelow<S>>>
+        ensures step { AsksFor self.old number (λ file. calls_of.whole file (length buf.old)) (λ none. calls_of.all) buf.new result self.new }
         ensures zeros { OnErr result (buf.new ≡ replicate (length buf.old) 0) }
         ensures closed { OnOk result (files_of self.new ≡ without (files_of self.old) number) }
         ensures open { OnErr result (files_of self.new ≡ files_of self.old) }
@@ -139,7 +138,7 @@ impl<H: Digest, D: Device> OpenFiles<H, D> {
 
     /// Closes the file of a number. It is refused only where no such file is open.
     pub fn close(&mut self, number: usize) -> Result<(), NotOpen>
-        ensures step { OnOk result (SteppedFor D.meaning D.moves self.old number calls_of.close (accepted calls_of.closed) self.new) }
+        ensures step { OnOk result (CalledFor self.old number calls_of.close (accepted calls_of.closed) self.new) }
         ensures closed { OnOk result (files_of self.new ≡ without (files_of self.old) number) }
         ensures none { OnErr result (NoneOpen self.old number self.new) }
         ensures open { OnErr result (files_of self.new ≡ files_of self.old) }

@@ -1,8 +1,7 @@
 // What an open tells, and why a call on an open file has no answer.
 ghost use Rattle.open_files.specs.Sentence.{file_fault_text, open_fault_text};
 
-use calls::Refusal;
-use layers::StorageFault;
+use calls::CallRefusal;
 use std::fmt;
 
 /// What an accepted open tells: the file's number, the offset of its first byte, and how many bytes it has.
@@ -17,7 +16,7 @@ pub struct Opened {
 #[derive(Debug, Drop)]
 pub enum OpenFault<R> {
     /// The mount's refusal.
-    Refused(Refusal<StorageFault<R>>),
+    Refused(CallRefusal<R>),
     /// There is no memory to keep one more file; the mount was not called.
     Memory,
 }
@@ -41,7 +40,7 @@ pub struct NotOpen;
 #[derive(Debug, Drop)]
 pub enum FileFault<R> {
     /// The mount's refusal.
-    Refused(Refusal<StorageFault<R>>),
+    Refused(CallRefusal<R>),
     /// No file of this number is open; the mount was not called.
     NotOpen,
 }

@@ -3,9 +3,8 @@ ghost use Rattle.std.specs.Prelude.{◌≡◌, ◌≤◌, [], ℕ, reverse, vec_
 ghost use Rattle.mount.specs.Mount.{held_of};
 
 use crate::own::give_back;
-use device::Device;
-use digest::Digest;
-use mount::Mount;
+use layers::Store;
+use mount::MountOver;
 use reader::Handle;
 use std::alloc::Global;
 
@@ -16,21 +15,21 @@ pub(crate) struct OpenFile {
 }
 
 /// A mount with its open files, each by a number.
-pub struct OpenFiles<H: Digest, D: Device> {
-    pub(crate) mount: Mount<H, D>,
+pub struct OpenFiles<S: Store> {
+    pub(crate) mount: MountOver<S>,
     pub(crate) files: Vec<OpenFile>,
     pub(crate) opened: usize,
     ghost kept: { vec_len files ≤ held_of mount },
 }
 
-impl<H: Digest + Drop, D: Device> OpenFiles<H, D> {
+impl<S: Store> OpenFiles<S> {
     ghost use Rattle.std.specs.Prelude.{◌≡◌, [], reverse};
-    ghost use Rattle.mount.specs.Mount.{device_of, mounted_of};
+    ghost use Rattle.mount.specs.Mount.{device_of};
     ghost use Rattle.open_files.specs.Files.{files_of, mount_of, opened_of};
     ghost use Rattle.open_files.specs.Steps.{Closed};
 
     /// A mount of which no file is open yet.
-    pub fn new(heap: Global, mount: Mount<H, D>) -> OpenFiles<H, D>
+    pub fn new(heap: Global, mount: MountOver<S>) -> OpenFiles<S>
         ensures mount { mount_of result ≡ mount }
         ensures opened { opened_of result ≡ 0 }
         ensures none { files_of result ≡ [] }
@@ -43,8 +42,8 @@ impl<H: Digest + Drop, D: Device> OpenFiles<H, D> {
     }
 
     /// Closes all files that are open, the last of the list first, and gives the device back.
-    pub fn into_device(self) -> D
-        ensures closed { (n : _) × Closed D.meaning D.moves (mounted_of (mount_of self)) (device_of (mount_of self)) (reverse (files_of self)) n result }
+    pub fn into_device(self) -> S::Bottom
+        ensures closed { (n : _) × Closed (mount_of self) (reverse (files_of self)) n × (result ≡ device_of n) }
     {
         let OpenFiles {
             mut mount,

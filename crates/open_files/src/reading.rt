@@ -3,16 +3,14 @@ ghost use Rattle.std.specs.Prelude.{◌≡◌, ◌≢◌, ◌↔◌, ◌<◌, �
 ghost use Rattle.std.specs.List.{before_first, position_or_len};
 ghost use Rattle.reader.specs.Calls.{extent_of};
 ghost use Rattle.calls.specs.Calls.{list, listed};
-ghost use Rattle.mount.specs.Mount.{Called, device_of, held_of, mounted_of};
+ghost use Rattle.mount.specs.Mount.{Called, held_of, replied};
 ghost use Rattle.open_files.specs.Reading.{GaveNone, GaveWhole, NotRead, Refuses, WasRead, missing, name_of};
 ghost use Rattle.open_files.specs.Sentence.{contents_fault_text};
 
 use crate::own::give_back;
-use calls::Refusal;
-use device::Device;
-use digest::Digest;
-use layers::StorageFault;
-use mount::Mount;
+use calls::{CallRefusal, Refusal};
+use layers::{RefusalBelow, Store};
+use mount::MountOver;
 use reader::Handle;
 use std::alloc::Global;
 use std::fmt;
@@ -22,7 +20,7 @@ use volume::{Entry, PathFault, PathRule};
 #[derive(Debug, Drop)]
 pub enum ContentsFault<R> {
     /// The mount's refusal, of `open` or of `whole`.
-    Refused(Refusal<StorageFault<R>>),
+    Refused(CallRefusal<R>),
     /// There is no memory for the bytes.
     Memory,
 }
@@ -39,15 +37,15 @@ impl<R: fmt::Display> fmt::Display for ContentsFault<R> {
 }
 
 // The bytes of a file whose handle is held; the handle is given back in each case.
-fn read_whole<H: Digest, D: Device>(
+fn read_whole<S: Store>(
     heap: Global,
-    mount: &mut Mount<H, D>,
+    mount: &mut MountOver<S>,
     handle: Handle,
-) -> Result<Vec<u8>, ContentsFault<D::Refusal>>
+) -> Result<Vec<u8>, ContentsFault<RefusalBelow<S>>>
     requires { 0 < held_of mount.old }
     ensures held { held_of mount.new ≡ held_of mount.old - 1 }
-    ensures whole { IfOk result (λ bytes. GaveWhole D.meaning D.moves (mounted_of mount.old) (device_of mount.old) (extent_of handle) bytes.items (mounted_of mount.new) (device_of mount.new)) }
-    ensures none { IfErr result (λ why. GaveNone D.meaning D.moves (mounted_of mount.old) (device_of mount.old) (extent_of handle) why (mounted_of mount.new) (device_of mount.new)) }
+    ensures whole { IfOk result (λ bytes. GaveWhole mount.old (extent_of handle) bytes.items mount.new) }
+    ensures none { IfErr result (λ why. GaveNone mount.old (extent_of handle) why mount.new) }
 {
     let Ok(mut bytes) = vec![in heap; 0u8; handle.size() as usize] else {
         give_back(mount, handle);
@@ -64,14 +62,14 @@ fn read_whole<H: Digest, D: Device>(
 
 /// The bytes of the file at a path: the mount's `open`, and then `whole`. Refused as these are, or where there is no memory
 /// for the bytes; whatever comes of them, no handle is held for the file afterwards.
-pub fn contents<H: Digest, D: Device>(
+pub fn contents<S: Store>(
     heap: Global,
-    mount: &mut Mount<H, D>,
+    mount: &mut MountOver<S>,
     path: &[u8],
-) -> Result<Vec<u8>, ContentsFault<D::Refusal>>
+) -> Result<Vec<u8>, ContentsFault<RefusalBelow<S>>>
     ensures held { held_of mount.new ≡ held_of mount.old }
-    ensures read { IfOk result (λ bytes. WasRead D.meaning D.moves (mounted_of mount.old) (device_of mount.old) path.now bytes.items (mounted_of mount.new) (device_of mount.new)) }
-    ensures none { IfErr result (λ why. NotRead D.meaning D.moves (mounted_of mount.old) (device_of mount.old) path.now why (mounted_of mount.new) (device_of mount.new)) }
+    ensures read { IfOk result (λ bytes. WasRead mount.old path.now bytes.items mount.new) }
+    ensures none { IfErr result (λ why. NotRead mount.old path.now why mount.new) }
 {
     match mount.open(path) {
         Ok(handle) => read_whole(heap, mount, handle),
@@ -124,15 +122,15 @@ fn is_behind_last<F>(refusal: &Refusal<F>, length: usize) -> bool
 
 /// The entry with this number in the directory at a path, counted from 0 as the mount's `list` does, or none behind the last
 /// (where `list` is refused by 41 at the end of the path). Other refusals are the mount's.
-pub fn entry_at<H: Digest, D: Device>(
-    mount: &mut Mount<H, D>,
+pub fn entry_at<S: Store>(
+    mount: &mut MountOver<S>,
     path: &[u8],
     index: usize,
-) -> Result<Option<Listed>, Refusal<StorageFault<D::Refusal>>>
+) -> Result<Option<Listed>, Refusal<S::Refusal>>
     ensures held { held_of mount.new ≡ held_of mount.old }
-    ensures listed { IfOk result (λ found. IfSome found (λ l. Called D.meaning D.moves (mounted_of mount.old) (device_of mount.old) (list path.now index 128) (record { answer = Ok (listed l.entry); buffer = name_of l }) (mounted_of mount.new) (device_of mount.new))) }
-    ensures last { IfOk result (λ found. IfNone found (Refuses D.meaning D.moves (mounted_of mount.old) (device_of mount.old) (list path.now index 128) (missing (length path.now)) (mounted_of mount.new) (device_of mount.new))) }
-    ensures refused { IfErr result (λ why. Refuses D.meaning D.moves (mounted_of mount.old) (device_of mount.old) (list path.now index 128) why (mounted_of mount.new) (device_of mount.new)) }
+    ensures listed { IfOk result (λ found. IfSome found (λ l. Called mount.old (list path.now index 128) (replied listed (name_of l) (Ok l.entry)) mount.new)) }
+    ensures last { IfOk result (λ found. IfNone found (Refuses mount.old (list path.now index 128) (missing (length path.now)) mount.new)) }
+    ensures refused { IfErr result (λ why. Refuses mount.old (list path.now index 128) why mount.new) }
     ensures not_last { IfErr result (λ why. why ≢ missing (length path.now)) }
 {
     let mut name = [0; 128];

@@ -9,6 +9,7 @@ use Rattle.device.specs.declared.question.Question.{Question}
 use Rattle.device.specs.Program.{Meaning, Somewhere}
 use Rattle.layers.specs.declared.fault.Place.{Place}
 use Rattle.layers.specs.declared.fault.StorageFault.{StorageFault}
+use Rattle.layers.specs.Store.{StoreRule}
 use Rattle.layers.specs.Publisher.{Publisher}
 use Rattle.layers.proofs.Judging.{some_of}
 use Rattle.layers.proofs.Tests.{tested}
@@ -231,7 +232,7 @@ module _ (R : Type 0) (p : Publisher) (path : List ℕ) (from n : ℕ) where
       by_read x y z w reading.0 reading.1 agrees.0 file.0 file.1 file.2 agrees.1.0 answer buffer file.3 file.4 agrees.1.1.0 blamed.1.1.0 zeros
   by_law (x ∷ y ∷ z ∷ w ∷ v ∷ more) agrees blamed answer buffer reading zeros = absurd reading
 
-  pub worth : {D : Type 0} (meaning : D → Meaning R) (moves : D → Question → D → Type 0) (d : D) (xs : List (Event R)) (e : D) → Kept meaning moves p d xs e → (answer : Result ℕ (Refusal F)) (buffer : List ℕ) → IsReading path from n answer buffer xs
+  pub worth : {D M : Type 0} (store : StoreRule R M) (meaning : D → Meaning R) (moves : D → Question → D → Type 0) (d : D) (xs : List (Event R)) (e : D) → Kept store meaning moves p d xs e → (answer : Result ℕ (Refusal F)) (buffer : List ℕ) → IsReading path from n answer buffer xs
       → ((refusal : Refusal F) → answer ≡ Err refusal → buffer ≡ replicate n 0) → Worth answer buffer xs
-  worth meaning moves d xs e kept answer buffer reading zeros =
+  worth store meaning moves d xs e kept answer buffer reading zeros =
       elim (twin_or_none p (all_exchanges xs)) [ inl given ↦ twin given | inr none ↦ by_law xs (kept.agrees none) (kept.blamed none) answer buffer reading zeros ]

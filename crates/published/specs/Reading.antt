@@ -15,10 +15,17 @@ use Rattle.calls.specs.declared.refusal.Refusal.{Refusal}
 use Rattle.calls.specs.declared.refusal.Refusal.TheVariants.{Mount, Volume, Path}
 use Rattle.calls.specs.Refusal.{holds}
 use Rattle.calls.specs.Calls.{begin, open_file, read, close, opened, closed, count, filled_to}
-use Rattle.calls.specs.Mount.{Mounted, image_length, made}
+use Rattle.calls.specs.Mount.{Mounted, cached_check, image_length, made}
 use Rattle.calls.specs.Image.{blamed_if}
 use Rattle.calls.specs.Law.{Event, Used, IsToBlame, all_exchanges}
-use Rattle.mount.specs.Mount.{replied}
+use Rattle.reader.specs.declared.handle.Handle.{Handle}
+use Rattle.reader.specs.Calls.{extent_of}
+use Rattle.mount.specs.declared.mount.MountOver.{MountOver}
+use Rattle.mount.specs.Mount.{Called, replied}
+
+-- a file is closed
+abbrev pub IsClosed : {S B R : Type 0} {s d e : _} → MountOver S B R s d e → Handle → MountOver S B R s d e → Type 0
+IsClosed m file n = Called m (close (extent_of file)) (record { answer = Ok closed; buffer = [] }) n
 
 -- a reading's last call was refused, and so is the reading; its buffer of n bytes is all zeros
 abbrev pub Ends : {R : Type 0} → ℕ → Event R → Result ℕ (Refusal (StorageFault R)) → List ℕ → Type 0
@@ -65,5 +72,5 @@ pub data IsWorth {R : Type 0} (p : Publisher) (path : List ℕ) (from n : ℕ) (
 -- a reading over a device, from one value of it to another
 abbrev pub WasRead : {D R : Type 0} → (D → Meaning R) → (D → Question → D → Type 0) → Publisher → D → List ℕ → ℕ → ℕ → Result ℕ (Refusal (StorageFault R)) → List ℕ → D → Type 0
 WasRead {R = R} meaning moves p d path from n answer buffer e =
-    (xs : List (Event R)) × (m : Mounted)
-    × Used meaning moves (made (Some (anchor_of p))) d xs m e × IsReading path from n answer buffer xs × IsWorth p path from n answer buffer xs
+    (xs : List (Event R)) × (m : Mounted _)
+    × Used (cached_check R) meaning moves (made (cached_check R) (Some (anchor_of p))) d xs m e × IsReading path from n answer buffer xs × IsWorth p path from n answer buffer xs

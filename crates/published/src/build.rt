@@ -11,7 +11,7 @@ impl<'a, H: Digest + Copy> Published<'a, H> {
     ghost use Rattle.builder.specs.Build.{answer as answer_of, tree_after};
     ghost use Rattle.tree.specs.Tree.{root as root_of, salted};
     ghost use Rattle.layers.specs.Publisher.{anchor_of};
-    ghost use Rattle.calls.specs.Mount.{made};
+    ghost use Rattle.calls.specs.Mount.{cached_check, made};
     ghost use Rattle.mount.specs.Law.{IsLabelOf, LawFrom};
     ghost use Rattle.mount.specs.Mount.{device_of, mounted_of};
     ghost use Rattle.published.specs.Publisher.{publisher_of, publisher_over, source_of};
@@ -24,8 +24,8 @@ impl<'a, H: Digest + Copy> Published<'a, H> {
         source: &Source<'a>,
         tree: &mut [u8],
     ) -> Result<Published<'a, H>, BuildFault>
-        ensures answer { MatchResult result (λ p. answer_of H.LEN source.now.data_block source.now.hash_block source.now.image.now source.now.salt.now tree.old (replicate H.LEN 0) ≡ Ok tt) (λ fault. answer_of H.LEN source.now.data_block source.now.hash_block source.now.image.now source.now.salt.now tree.old (replicate H.LEN 0) ≡ Err fault) }
-        ensures tree { tree.new ≡ tree_after H.LEN H.meaning source.now.data_block source.now.hash_block source.now.image.now source.now.salt.now tree.old (replicate H.LEN 0) }
+        ensures answer { let given = answer_of H.LEN source.now tree.old (replicate H.LEN 0) in MatchResult result (λ p. given ≡ Ok tt) (λ fault. given ≡ Err fault) }
+        ensures tree { tree.new ≡ tree_after H.LEN H.meaning source.now tree.old (replicate H.LEN 0) }
         ensures publisher { IfOk result (λ p. publisher_of p ≡ publisher_over H.LEN H.meaning source.now) }
     {
         let size = digest.output_len();
@@ -61,8 +61,8 @@ impl<'a, H: Digest + Copy> Published<'a, H> {
     /// A mount of a device by this label. Every use of it keeps the law of runs, with this image as the publisher's.
     pub fn mount<D: Device>(&self, device: D) -> Mount<H, D>
         ensures device { device_of result ≡ device }
-        ensures made { mounted_of result ≡ made (Some (anchor_of (publisher_of self.now))) }
-        ensures law { LawFrom D.meaning D.moves (publisher_of self.now) (mounted_of result) (device_of result) }
+        ensures made { mounted_of result ≡ made (cached_check D.Refusal) (Some (anchor_of (publisher_of self.now))) }
+        ensures law { LawFrom (publisher_of self.now) result }
     {
         Mount::new(self.digest, &self.label(), device)
     }

@@ -1,31 +1,31 @@
 // Reading a file of a card.
-ghost use Rattle.std.specs.Prelude.{◌≡◌, ◌<◌, [], List, Ok, OnErr, length, replicate};
+ghost use Rattle.std.specs.Prelude.{◌≡◌, ◌<◌, List, OnErr, length, replicate};
 ghost use Rattle.calls.specs.Calls as calls_of;
-ghost use Rattle.calls.specs.Law.{Event, Used};
+ghost use Rattle.calls.specs.Law.{Event};
 ghost use Rattle.reader.specs.Calls.{extent_of};
-ghost use Rattle.mount.specs.Mount.{Called, device_of, held_of, mounted_of, replied};
-ghost use Rattle.published.specs.Reading.{IsReading};
+ghost use Rattle.mount.specs.Mount.{Called, UsedTo, held_of, replied};
+ghost use Rattle.published.specs.Reading.{IsClosed, IsReading};
 
 use crate::published::Published;
-use calls::Refusal;
-use device::Device;
+use calls::{CallRefusal, Refusal};
+use device::{Device, wipe};
 use digest::Digest;
-use layers::StorageFault;
-use mount::Mount;
+use layers::Store;
+use mount::MountOver;
 use reader::Handle;
 
 // Reads of a file that is open, and closes it. Of a mount that holds a handle close is not refused.
-fn read_open<H: Digest, D: Device>(
-    mount: &mut Mount<H, D>,
+fn read_open<S: Store>(
+    mount: &mut MountOver<S>,
     file: Handle,
-    from: usize,
+    offset: usize,
     buf: &mut [u8],
-) -> Result<usize, Refusal<StorageFault<D::Refusal>>>
+) -> Result<usize, Refusal<S::Refusal>>
     requires { 0 < held_of mount.old }
     ensures zeros { OnErr result (buf.new ≡ replicate (length buf.old) 0) }
-    ensures steps { (k : _) × (f : _) × Called D.meaning D.moves (mounted_of mount.old) (device_of mount.old) (calls_of.read (extent_of file) from (length buf.old)) (replied calls_of.count buf.new result) k f × Called D.meaning D.moves k f (calls_of.close (extent_of file)) (record { answer = Ok calls_of.closed; buffer = [] }) (mounted_of mount.new) (device_of mount.new) }
+    ensures steps { (k : _) × Called mount.old (calls_of.read (extent_of file) offset (length buf.old)) (replied calls_of.count buf.new result) k × IsClosed k file mount.new }
 {
-    let answer = mount.read(&file, from, buf);
+    let answer = mount.read(&file, offset, buf);
     match mount.close(file) {
         Ok(()) => answer,
         Err((_handle, _refusal)) => unreachable!(),
@@ -33,19 +33,19 @@ fn read_open<H: Digest, D: Device>(
 }
 
 // Begins, opens the file at a path, reads and closes it.
-fn read_file<H: Digest, D: Device>(
-    mount: &mut Mount<H, D>,
+fn read_file<S: Store>(
+    mount: &mut MountOver<S>,
     path: &[u8],
-    from: usize,
+    offset: usize,
     buf: &mut [u8],
-) -> Result<usize, Refusal<StorageFault<D::Refusal>>>
+) -> Result<usize, Refusal<S::Refusal>>
     ensures zeros { OnErr result (buf.new ≡ replicate (length buf.old) 0) }
-    ensures reading { (xs : List (Event _)) × Used D.meaning D.moves (mounted_of mount.old) (device_of mount.old) xs (mounted_of mount.new) (device_of mount.new) × IsReading path.now from (length buf.old) result buf.new xs }
+    ensures reading { (xs : List (Event _)) × UsedTo mount.old xs mount.new × IsReading path.now offset (length buf.old) result buf.new xs }
 {
-    buf.fill(0);
+    wipe(buf);
     mount.begin()?;
     let file = mount.open(path)?;
-    read_open(mount, file, from, buf)
+    read_open(mount, file, offset, buf)
 }
 
 impl<H: Digest + Copy> Published<'_, H> {
@@ -62,14 +62,14 @@ impl<H: Digest + Copy> Published<'_, H> {
         &self,
         device: D,
         path: &[u8],
-        from: usize,
+        offset: usize,
         buf: &mut [u8],
-    ) -> (D, Result<usize, Refusal<StorageFault<D::Refusal>>>)
+    ) -> (D, Result<usize, CallRefusal<D::Refusal>>)
         ensures zeros { OnErr result.1 (buf.new ≡ replicate (length buf.old) 0) }
-        ensures read { WasRead D.meaning D.moves (publisher_of self.now) device path.now from (length buf.old) result.1 buf.new result.0 }
+        ensures read { WasRead D.meaning D.moves (publisher_of self.now) device path.now offset (length buf.old) result.1 buf.new result.0 }
     {
         let mut mount = self.mount(device);
-        let answer = read_file(&mut mount, path, from, buf);
+        let answer = read_file(&mut mount, path, offset, buf);
         (mount.into_device(), answer)
     }
 }

@@ -4,7 +4,6 @@
 mod bottom;
 mod call;
 mod code;
-mod counting;
 mod name;
 mod reply;
 #[cfg(test)]
@@ -13,6 +12,5 @@ mod tests;
 pub use bottom::{Bottom, BottomRefusal};
 pub use call::{Call, PathWord};
 pub use code::Code;
-pub use counting::Counting;
 pub use name::Name;
 pub use reply::Reply;

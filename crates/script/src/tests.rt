@@ -1,8 +1,8 @@
 // A line of each form, and a line that answers it.
-use crate::{Call, Counting, Name, PathWord, Reply};
+use crate::{Call, Name, PathWord, Reply};
 use device::{Area, Device};
 use layers::{Level, Place, StorageFault};
-use media::{Memory, Outside};
+use media::{Counting, Memory, Outside};
 use std::test::Fail;
 use text::HexText;
 use volume::{Entry, Kind, PathFault, VolumeFault};

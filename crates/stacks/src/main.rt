@@ -10,8 +10,7 @@ mod tests;
 mod turn;
 
 use card::Card;
-use digest::{Sha256, Sha512};
-use text::Function;
+use text::with_digest;
 
 // Cards that veritysetup made.
 const CARDS: [&str; 5] = ["small1k", "mixed", "mixed512", "plain", "many"];
@@ -19,11 +18,7 @@ const CARDS: [&str; 5] = ["small1k", "mixed", "mixed512", "plain", "many"];
 fn run(rt: &HostRuntime) -> anyhow::Result<()> {
     for name in CARDS {
         let card = Card::read(rt, name)?;
-        // a closure cannot be generic over the digest
-        match card.label.function() {
-            Function::Sha256 => read::read_all(rt, Sha256, &card)?,
-            Function::Sha512 => read::read_all(rt, Sha512, &card)?,
-        }
+        with_digest!(card.label.function(), digest => read::read_all(rt, digest, &card)?);
     }
     let many = Card::read(rt, "many")?;
     turn::turn_all(rt, &many)?;

@@ -8,11 +8,10 @@ mod reading;
 use anyhow::anyhow;
 use digest::Sha256;
 use kitchen::Kitchen;
-use media::{Memory, Turning};
+use media::{Counting, Memory, Turning};
 use open_files::OpenFiles;
 use published::Published;
 use reading::TABLE;
-use script::Counting;
 
 // So many questions the card answers by its own pages: those until noon. Then it answers by the older ones.
 const SOUND: u64 = 26;

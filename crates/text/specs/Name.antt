@@ -1,8 +1,12 @@
 -- The names of the digest functions, as ASCII codes.
-use Rattle.std.specs.Prelude.{ℕ, List, Option, Some, None, if◌then◌else◌, codes}
+use Rattle.std.specs.Prelude.{ℕ, List, [], ◌∷◌, Option, find, codes}
 use Rattle.std.specs.Str.{bytes_eq}
 use Rattle.text.specs.declared.function.Function.{Function}
 use Rattle.text.specs.declared.function.Function.TheVariants.{Sha256, Sha512}
+
+-- each function once
+abbrev pub functions : List Function
+functions = Sha256 ∷ Sha512 ∷ []
 
 abbrev pub name_of : Function → List ℕ
 name_of Sha256 = codes "sha256"
@@ -10,7 +14,4 @@ name_of Sha512 = codes "sha512"
 
 -- the function that has this very text for its name
 abbrev pub named : List ℕ → Option Function
-named text =
-    if bytes_eq text (name_of Sha256) then Some Sha256
-    else if bytes_eq text (name_of Sha512) then Some Sha512
-    else None
+named text = find (λ f. bytes_eq text (name_of f)) functions

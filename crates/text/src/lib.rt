@@ -7,13 +7,12 @@ mod digits;
 mod function;
 mod hex_text;
 mod laws;
-mod sum;
-mod take;
 #[cfg(test)]
 mod tests;
 
 pub use bytes::Bytes;
 pub use decimal::{number, wide_number};
+pub use digest::{Sha256, Sha512};
 pub use digits::Digits;
 pub use function::{Function, UnknownFunction};
 pub use hex_text::HexText;

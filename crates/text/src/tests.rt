@@ -7,7 +7,7 @@ use std::test::Fail;
 fn reads_the_names_it_prints(rt: HostRuntime) -> Result<(), Fail> {
     for function in Function::all() {
         let name = format!(in rt.alloc(); "{function}")?;
-        assert_eq!(rt; name.as_str().parse::<Function>(), Ok(function));
+        assert_eq!(rt; name.as_str().parse::<Function>(), Ok(*function));
     }
     for name in ["", "sha256 ", "SHA256", "sha384", "sha5120"] {
         assert_eq!(rt; name.parse::<Function>(), Err(UnknownFunction));

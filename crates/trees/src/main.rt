@@ -7,11 +7,11 @@ mod outcome;
 use anyhow::{anyhow, ensure};
 use builder::{Base, Source, build, build_above, hash_blocks};
 use card::Card;
-use digest::{Digest, Sha256, Sha512};
+use digest::Digest;
 use outcome::Outcome;
 use std::alloc::Global;
 use std::fs;
-use text::Function;
+use text::with_digest;
 
 // Few enough that some cards are of several parts, of which the last is shorter.
 const BLOCKS_OF_A_PART: usize = 100;
@@ -73,11 +73,7 @@ fn rebuild<D: Digest>(rt: &HostRuntime, digest: &D, card: &Card) -> anyhow::Resu
 
 // Prints what became of the card's tree and root; whether they are as they were.
 fn compare(rt: &HostRuntime, card: &Card) -> anyhow::Result<bool> {
-    // a closure cannot be generic over the digest
-    let outcome = match card.function {
-        Function::Sha256 => rebuild(rt, &Sha256, card)?,
-        Function::Sha512 => rebuild(rt, &Sha512, card)?,
-    };
+    let outcome = with_digest!(card.function, digest => rebuild(rt, &digest, card)?);
     if let Outcome::Refused(fault) = outcome {
         println!(rt; "{}: refused: {fault}", card.name)?;
     }

@@ -46,7 +46,7 @@ fn run(rt: &HostRuntime) -> anyhow::Result<()> {
     let mut tally = Tally::default();
     for function in Function::all() {
         for message in Message::ALL {
-            run_message(rt, &expected, function, message, &mut tally)?;
+            run_message(rt, &expected, *function, message, &mut tally)?;
         }
     }
     rt.println(&tally)?;

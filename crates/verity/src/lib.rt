@@ -2,10 +2,6 @@
 #![tactic(auto)]
 
 mod anchor;
-mod check;
-mod copy;
-mod layer;
-mod places;
 mod verity;
 
 pub use verity::Verity;

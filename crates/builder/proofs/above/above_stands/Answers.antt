@@ -1,4 +1,4 @@
-use Rattle.builder.proofs.OverDigests.{above_stands_lem}
+use Rattle.builder.proofs.Digests.{above_stands_lem}
 use Rattle.builder.proofs.above.above_stands.Goals as goal
 
 pub returns : goal.returns

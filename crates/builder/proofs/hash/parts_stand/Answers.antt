@@ -1,4 +1,4 @@
-use Rattle.builder.proofs.Hashing.{parts_stand_lem}
+use Rattle.builder.proofs.Digests.{parts_stand_lem}
 use Rattle.builder.proofs.hash.parts_stand.Goals as goal
 
 pub returns : goal.returns

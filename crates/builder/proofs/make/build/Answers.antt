@@ -1,12 +1,15 @@
 use Rattle.std.proofs.Common.{rules}
-use Rattle.builder.proofs.Ready.{ready_of}
-use Rattle.builder.proofs.Climb.{whole_tree}
+use Rattle.builder.proofs.Over.{over_data, row_over, zeros_over}
 use Rattle.builder.proofs.make.build.Goals as goal
 
-pub invariant_of-job : goal.invariant_of-job
-invariant_of-job g c =
-    let ok = c.in_ok-geometry.ensures in
-    record { ready = ready_of g.D.Digest.meaning g.D.Digest.LEN _ _ _ _ _ _ _ _ g.met.D.Digest.lengths c.output_len.ensures ok.0 ok.1 ok.2 }
+pub climb-requires-clause-below : goal.climb-requires-clause-below
+climb-requires-clause-below g c = row_over c.in_ok-job.job.geometry _ (search rules)
+
+pub climb-requires-clause-zeros : goal.climb-requires-clause-zeros
+climb-requires-clause-zeros g c = zeros_over c.in_ok-job.job.geometry (search rules)
 
 pub returns-clause-tree : goal.returns-clause-tree
-returns-clause-tree g c = let made = whole_tree _ _ _ _ c.climb.ensures.tree in search rules
+returns-clause-tree g c = let made = rw (over_data c.in_ok-job.job.geometry) at c.climb.ensures.tree in search rules
+
+pub returns-clause-root : goal.returns-clause-root
+returns-clause-root g c = let made = rw (over_data c.in_ok-job.job.geometry) at c.climb.ensures.root in search rules

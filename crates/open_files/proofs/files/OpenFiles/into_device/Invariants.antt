@@ -1,5 +1,5 @@
 use Rattle.std.proofs.Common.{◌≡◌, ◌≤◌, ◌++◌, List, reverse, vec_len}
-use Rattle.mount.specs.Mount.{device_of, held_of, mounted_of}
+use Rattle.mount.specs.Mount.{held_of}
 use Rattle.open_files.specs.declared.files.OpenFile.{OpenFile}
 use Rattle.open_files.specs.Files.{files_of, mount_of}
 use Rattle.open_files.specs.Steps.{Closed}
@@ -11,7 +11,7 @@ invariant-loop-file g l =
     (vec_len l.files ≤ held_of l.mount)
     × (others : List OpenFile)
     × (files_of l.fn.self ≡ l.files.items ++ others)
-    × Closed g.D.Device.meaning g.D.Device.moves (mounted_of (mount_of l.fn.self)) (device_of (mount_of l.fn.self)) (reverse others) (mounted_of l.mount) (device_of l.mount)
+    × Closed (mount_of l.fn.self) (reverse others) l.mount
 
 abbrev pub decreases-loop-file : goal.decreases-loop-file
 decreases-loop-file g l = vec_len l.files

@@ -1,0 +1,14 @@
+use Rattle.std.proofs.Common.{ap, ◌∙◌}
+use Rattle.verity.specs.Layer as verity
+use Rattle.cache.specs.Layer as cache
+use Rattle.reader.specs.Calls.{state_of}
+use Rattle.mount.proofs.Laws.{cached-law}
+use Rattle.mount.proofs.Premises.{limits, whole}
+use Rattle.mount.proofs.cached.Mount+H+D.new.Goals as goal
+
+pub returns-clause-law : goal.returns-clause-law
+returns-clause-law g c p his =
+    let h = g.H.Digest in
+    let label = c.args.label.now in
+    cached-law g.D.Device.meaning g.D.Device.moves g.met.D.Device.onward g.met.D.Device.sized p (whole h.NUMBER h.LEN h.meaning g.met.H.Digest.lengths p label his) (limits h.NUMBER h.LEN h.meaning g.met.H.Digest.lengths p label his)
+    _ _ _ (ap verity.label_of c.new-2.ensures.below ∙ c.new.ensures.label ∙ his.told) c.new-2.ensures.table c.new-3.ensures _
