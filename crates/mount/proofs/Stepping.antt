@@ -27,7 +27,7 @@ use Rattle.mount.specs.Mount.{replied}
 
 -- a call's rules by blocks are those by a label of this shape
 by_shape : {S F : Type 0} (d : device.Ghosts S F) (geometry : Geometry) (label : Option Anchor) (s : State) (call : Call) (first : S) (r : Result Accepted (Refusal F)) (last : S)
-    → Some (shape_of geometry) ≡ option_map (λ anchor. anchor.shape) label → CallRan d.meaning d.moves (shape_of geometry) (state_of s) call first r last
+    → Some (shape_of geometry) ≡ option_map (λ anchor. anchor.shape) label → CallRan d.meaning d.moves geometry first s call r last
     → Ran d.meaning d.moves first (by_label label (state_of s) call) r last
 by_shape d geometry None s call first r last is ran = let no : Some (shape_of geometry) ≡ None = is in cc
 by_shape d geometry (Some anchor) s call first r last is ran =
@@ -43,11 +43,11 @@ some_label X geometry None is none = let no : Some (shape_of geometry) ≡ None 
 some_label X geometry (Some anchor) is none = cc
 
 -- what the rules' outcome replies, and the state after it
-reply_is : {F X : Type 0} (call : Call) (given : X → Given) (buffer : List ℕ) (state : State) (r : Result X (Refusal F)) → OnErr r (buffer ≡ replicate (room call) 0) → reply_of call (outcome given buffer (state_of state) r) ≡ replied given buffer r
+reply_is : {F X : Type 0} (call : Call) (given : X → Given) (buffer : List ℕ) (state : State) (r : Result X (Refusal F)) → OnErr r (buffer ≡ replicate (room call) 0) → reply_of call (outcome given buffer state r) ≡ replied given buffer r
 reply_is call given buffer state (Ok x) zeros = refl
 reply_is call given buffer state (Err refusal) zeros = ap (λ b. record { answer = Err refusal; buffer = b }) (sym zeros)
 
-state_is : {F X : Type 0} (given : X → Given) (buffer : List ℕ) (before after : State) (r : Result X (Refusal F)) → OnErr r (after ≡ before) → calls.state_of (state_of before) (outcome given buffer (state_of after) r) ≡ state_of after
+state_is : {F X : Type 0} (given : X → Given) (buffer : List ℕ) (before after : State) (r : Result X (Refusal F)) → OnErr r (after ≡ before) → calls.state_of (state_of before) (outcome given buffer after r) ≡ state_of after
 state_is given buffer before after (Ok x) kept = refl
 state_is given buffer before after (Err refusal) kept = ap state_of (sym kept)
 
@@ -87,19 +87,19 @@ module _ {U B R : Type 0} (s : store.Ghosts U B R) (d : device.Ghosts U (Storage
     pub told : Some (shape_of geometry) ≡ option_map (λ anchor. anchor.shape) (s.label u)
     pub zeros : OnErr result (buffer ≡ replicate (room call) 0)
     pub kept : OnErr result (after ≡ before)
-    pub ran : CallRan d.meaning d.moves (shape_of geometry) (state_of before) call u (outcome given buffer (state_of after) result) v
+    pub ran : CallRan d.meaning d.moves geometry u before call (outcome given buffer after result) v
 
   module _ {X : Type 0} (geometry : Geometry) (given : X → Given) (buffer : List ℕ) (result : Result X (Refusal (StorageFault R))) (v : U) (after : State) (came : Came geometry given buffer result v after) where
-    run : Ran d.meaning d.moves u (by_label (s.label u) (state_of before) call) (outcome given buffer (state_of after) result) v
-    run = by_shape d geometry (s.label u) before call u (outcome given buffer (state_of after) result) v came.told came.ran
+    run : Ran d.meaning d.moves u (by_label (s.label u) (state_of before) call) (outcome given buffer after result) v
+    run = by_shape d geometry (s.label u) before call u (outcome given buffer after result) v came.told came.ran
 
     pub called : Stepped (replied given buffer result) v after
-    called = stepped (outcome given buffer (state_of after) result) v after (replied given buffer result) (reply_is call given buffer after result came.zeros) (state_is given buffer before after result came.kept) run
+    called = stepped (outcome given buffer after result) v after (replied given buffer result) (reply_is call given buffer after result came.zeros) (state_is given buffer before after result came.kept) run
 
     -- and the label was not refused then
     pub told_still : (X : Type 0) → s.label v ≡ None → X
     told_still X none =
-        let same = ran-below e.meaning e.moves s.rule.step s.label s.memory s.bottom d.meaning d.moves each (by_label (s.label u) (state_of before) call) u (outcome given buffer (state_of after) result) v run in
+        let same = ran-below e.meaning e.moves s.rule.step s.label s.memory s.bottom d.meaning d.moves each (by_label (s.label u) (state_of before) call) u (outcome given buffer after result) v run in
         some_label X geometry (s.label u) came.told (sym same.1 ∙ none)
 
 -- what holds whether a call is refused or not

@@ -4,7 +4,7 @@ ghost use Rattle.std.specs.Prelude.{◌≡◌, None};
 use calls::{MountRule, Refusal};
 use device::wipe;
 use layers::Store;
-use reader::{Handle, State};
+use reader::{Handle, Nth, Position, State};
 use volume::{Entry, Start};
 
 /// What the calls remember, over a store: a verified mount of the image that the store's label tells of.
@@ -61,7 +61,8 @@ impl<S: Store> MountOver<S> {
             wipe(buf);
             return Err(Refusal::Mount(MountRule::Label));
         };
-        self.state.read(&mut self.store, &geometry, handle, offset, buf)
+        let position = Position { handle, offset };
+        self.state.read(&mut self.store, &geometry, position, buf)
     }
 
     /// Reads a whole file into a buffer of its size, and ends its handle. Refused, it leaves zeros and gives the handle back.
@@ -99,8 +100,8 @@ impl<S: Store> MountOver<S> {
             wipe(buf);
             return Err(Refusal::Mount(MountRule::Label));
         };
-        self.state
-            .list(&mut self.store, &geometry, path, index, buf)
+        let nth = Nth { path, index };
+        self.state.list(&mut self.store, &geometry, nth, buf)
     }
 
     /// Ends a handle. It is refused exactly where none is held, and then gives the handle back.

@@ -4,7 +4,7 @@ use Rattle.geometry.specs.Of.{shape_of}
 use Rattle.volume.specs.Fetches.{by_blocks}
 use Rattle.calls.specs.Calls.{close, closed}
 use Rattle.calls.specs.Mount.{image_length}
-use Rattle.reader.specs.Calls.{extent_of, state_of, outcome, refused}
+use Rattle.reader.specs.Calls.{extent_of, outcome, refused}
 use Rattle.reader.proofs.Running.{ran-settled}
 use Rattle.mount.proofs.Stepping.{always, called, label_refused, without}
 use Rattle.mount.proofs.mount.MountOver.close.Goals as goal
@@ -13,7 +13,7 @@ pub returns-clause-step : goal.returns-clause-step
 returns-clause-step g c =
     let m = c.args.self.now in
     let shape = shape_of c.in-Some._geometry in
-    let out = outcome (λ none. closed) [] (state_of c.close.new.self) (refused c.close.result) in
+    let out = outcome (λ none. closed) [] c.close.new.self (refused c.close.result) in
     called g.S.Store g.S.Device g.S.Bottom.Device g.met.S.Store.steps m.store m.state (close (extent_of c.args.handle)) c.in-Some._geometry (λ none. closed) [] (refused c.close.result) m.store c.close.new.self
     (record {
       told = sym (ap (option_map shape_of) c.in-Some.is) ∙ c.geometry.ensures;
