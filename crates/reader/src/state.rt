@@ -2,7 +2,7 @@
 ghost use Rattle.std.specs.Prelude.{◌≡◌, None};
 
 use crate::block::BlockSize;
-use crate::fetch::fetch_at;
+use crate::fetch::fetch;
 use crate::front::read_front;
 use crate::handle::Handle;
 use crate::nth::Nth;
@@ -147,7 +147,7 @@ impl State {
         if buf.len() != handle.size as usize {
             return Err((handle, Refusal::Mount(MountRule::Length)));
         }
-        match fetch_at(store, BlockSize::of(geometry), handle.start, buf) {
+        match fetch(store, BlockSize::of(geometry), handle.start, buf) {
             Ok(()) => {
                 handle.spend();
                 self.held -= 1;
