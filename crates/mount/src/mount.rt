@@ -18,13 +18,13 @@ pub struct MountOver<S: Store> {
 
 impl<S: Store> MountOver<S> {
     ghost use Rattle.std.specs.Prelude.{◌<◌, ◌≤◌, ◌+◌, ◌-◌, cond, [], OnErr, OnOk, IfErr, IfOk, is_ok, nat_lt, length, replicate};
-    ghost use Rattle.calls.specs.Calls as calls_of;
-    ghost use Rattle.reader.specs.Calls.{extent_of, refused};
+    ghost use Rattle.calls.specs.Calls.{count, list, listed, read, started};
+    ghost use Rattle.reader.specs.Calls.{begins, closes, extent_of, gave_all, gave_closed, opened_file, opens, reads_whole, refused};
     ghost use Rattle.mount.specs.Mount.{Called, device_of, held_of, replied};
 
     /// Reads the start of the volume. Once it has begun, a mount answers the same again and asks nothing.
     pub fn begin(&mut self) -> Result<Start, Refusal<S::Refusal>>
-        ensures step { Called self.old calls_of.begin (replied calls_of.started [] result) self.new }
+        ensures step { Called self.old begins (replied started [] result) self.new }
         ensures held { held_of self.new ≡ held_of self.old }
     {
         let Some(geometry) = self.store.geometry() else {
@@ -35,7 +35,7 @@ impl<S: Store> MountOver<S> {
 
     /// Opens the file that a path names. The handle is held until `whole` or `close` takes it.
     pub fn open(&mut self, path: &[u8]) -> Result<Handle, Refusal<S::Refusal>>
-        ensures step { Called self.old (calls_of.open_file path.now) (replied (λ handle. calls_of.opened (extent_of handle)) [] result) self.new }
+        ensures step { Called self.old (opens path.now) (replied opened_file [] result) self.new }
         ensures held { held_of self.new ≡ cond (is_ok result) (held_of self.old + 1) (held_of self.old) }
     {
         let Some(geometry) = self.store.geometry() else {
@@ -52,7 +52,7 @@ impl<S: Store> MountOver<S> {
         offset: usize,
         buf: &mut [u8],
     ) -> Result<usize, Refusal<S::Refusal>>
-        ensures step { Called self.old (calls_of.read (extent_of handle.now) offset (length buf.old)) (replied calls_of.count buf.new result) self.new }
+        ensures step { Called self.old (read (extent_of handle.now) offset (length buf.old)) (replied count buf.new result) self.new }
         ensures few { IfOk result (λ c. c ≤ length buf.old) }
         ensures zeros { OnErr result (buf.new ≡ replicate (length buf.old) 0) }
         ensures held { held_of self.new ≡ held_of self.old }
@@ -71,7 +71,7 @@ impl<S: Store> MountOver<S> {
         handle: Handle,
         buf: &mut [u8],
     ) -> Result<(), (Handle, Refusal<S::Refusal>)>
-        ensures step { Called self.old (calls_of.whole (extent_of handle) (length buf.old)) (replied (λ none. calls_of.all) buf.new (refused result)) self.new }
+        ensures step { Called self.old (reads_whole handle buf.old) (replied gave_all buf.new (refused result)) self.new }
         ensures zeros { OnErr result (buf.new ≡ replicate (length buf.old) 0) }
         ensures back { IfErr result (λ e. e.0 ≡ handle) }
         ensures held { held_of self.new ≡ cond (is_ok result) (held_of self.old - 1) (held_of self.old) }
@@ -92,7 +92,7 @@ impl<S: Store> MountOver<S> {
         index: usize,
         buf: &mut [u8],
     ) -> Result<Entry, Refusal<S::Refusal>>
-        ensures step { Called self.old (calls_of.list path.now index (length buf.old)) (replied calls_of.listed buf.new result) self.new }
+        ensures step { Called self.old (list path.now index (length buf.old)) (replied listed buf.new result) self.new }
         ensures zeros { OnErr result (buf.new ≡ replicate (length buf.old) 0) }
         ensures held { held_of self.new ≡ held_of self.old }
     {
@@ -106,7 +106,7 @@ impl<S: Store> MountOver<S> {
 
     /// Ends a handle. It is refused exactly where none is held, and then gives the handle back.
     pub fn close(&mut self, handle: Handle) -> Result<(), (Handle, Refusal<S::Refusal>)>
-        ensures step { Called self.old (calls_of.close (extent_of handle)) (replied (λ none. calls_of.closed) [] (refused result)) self.new }
+        ensures step { Called self.old (closes handle) (replied gave_closed [] (refused result)) self.new }
         ensures back { IfErr result (λ e. e.0 ≡ handle) }
         ensures closes { is_ok result ≡ nat_lt 0 (held_of self.old) }
         ensures held { held_of self.new ≡ held_of self.old - 1 }

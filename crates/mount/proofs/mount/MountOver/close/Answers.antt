@@ -2,9 +2,8 @@ use Rattle.std.proofs.Common.{[], option_map, refl, sym, ap, ◌∙◌, subst}
 use Rattle.device.specs.Run.{Ran}
 use Rattle.geometry.specs.Of.{shape_of}
 use Rattle.volume.specs.Fetches.{by_blocks}
-use Rattle.calls.specs.Calls.{close, closed}
 use Rattle.calls.specs.Mount.{image_length}
-use Rattle.reader.specs.Calls.{extent_of, outcome, refused}
+use Rattle.reader.specs.Calls.{closes, gave_closed, outcome, refused}
 use Rattle.reader.proofs.Running.{ran-settled}
 use Rattle.mount.proofs.Stepping.{always, called, label_refused, without}
 use Rattle.mount.proofs.mount.MountOver.close.Goals as goal
@@ -13,8 +12,8 @@ pub returns-clause-step : goal.returns-clause-step
 returns-clause-step g c =
     let m = c.args.self.now in
     let shape = shape_of c.in-Some._geometry in
-    let out = outcome (λ none. closed) [] c.close.new.self (refused c.close.result) in
-    called g.S.Store g.S.Device g.S.Bottom.Device g.met.S.Store.steps m.store m.state (close (extent_of c.args.handle)) c.in-Some._geometry (λ none. closed) [] (refused c.close.result) m.store c.close.new.self
+    let out = outcome gave_closed [] c.close.new.self (refused c.close.result) in
+    called g.S.Store g.S.Device g.S.Bottom.Device g.met.S.Store.steps m.store m.state (closes c.args.handle) c.in-Some._geometry gave_closed [] (refused c.close.result) m.store c.close.new.self
     (record {
       told = sym (ap (option_map shape_of) c.in-Some.is) ∙ c.geometry.ensures;
       zeros = without c.close.result _ (always c.close.result _ refl);
@@ -24,4 +23,4 @@ returns-clause-step g c =
 
 pub returns-in_default-clause-step : goal.returns-in_default-clause-step
 returns-in_default-clause-step g c =
-    label_refused g.S.Store g.S.Device g.S.Bottom.Device g.met.S.Store.steps c.args.self.now.store c.args.self.now.state (close (extent_of c.args.handle)) [] (sym (ap (option_map shape_of) c.in_default.is) ∙ c.geometry.ensures) refl
+    label_refused g.S.Store g.S.Device g.S.Bottom.Device g.met.S.Store.steps c.args.self.now.store c.args.self.now.state (closes c.args.handle) [] (sym (ap (option_map shape_of) c.in_default.is) ∙ c.geometry.ensures) refl
