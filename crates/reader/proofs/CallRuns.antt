@@ -6,6 +6,7 @@ use Rattle.device.specs.Program.{Meaning}
 use Rattle.volume.specs.declared.types.Start.{Start}
 use Rattle.volume.specs.Fetches.{Fetches, give, after, put}
 use Rattle.volume.specs.Header.{Header}
+use Rattle.volume.specs.Sizes.{name_size}
 use Rattle.volume.specs.Start.{start}
 use Rattle.volume.specs.Use.{Extent}
 use Rattle.volume.specs.Paths.{open_path, list_path}
@@ -66,8 +67,8 @@ module _ {S F : Type 0} (meaning : S → Meaning F) (moves : S → Question → 
           (λ r ran. begun (λ a. whole_rules a s file n) (turned (λ e. Volume e) whole_as r) (rw (inside, ne_eqb s.held 0 some, eq-eqb n file.size (sym same ∙ size)) (gives (bytes_at file.start file.size) (λ e. Volume e) whole_as r ran)))
 
     abbrev listed_as : Header → Accepted
-    listed_as h = record { given = listed h.entry; buffer = filled_to 128 h.name; state = s }
+    listed_as h = record { given = listed h.entry; buffer = filled_to name_size h.name; state = s }
 
-    pub list-ran : (path : List ℕ) (index n : ℕ) → n ≡ 128 → By (list path index n) (list_path at path index) (λ e. Path e) listed_as
+    pub list-ran : (path : List ℕ) (index n : ℕ) → n ≡ name_size → By (list path index n) (list_path at path index) (λ e. Path e) listed_as
     unfolding list_rules
     list-ran path index n same r ran = begun (λ a. list_rules a s path index n) (turned (λ e. Path e) listed_as r) (rw same (gives (list_path at path index) (λ e. Path e) listed_as r ran))

@@ -1,5 +1,5 @@
 -- Gathering parts block by block is a fetch.
-use Rattle.std.proofs.Common.{◌≡◌, ◌⊎◌, ℕ, zero, suc, ◌+◌, ◌-◌, ◌*◌, ◌/◌, ◌%◌, ◌≤◌, ◌<◌, min, cond, eqb, List, [], ◌++◌, length, take, drop, Ok, Err, append_assoc, refl, sym, ap, ap₂, ◌∙◌, subst, inl, inr, arith}
+use Rattle.std.proofs.Common.{◌≡◌, ◌⊎◌, ℕ, zero, suc, ◌+◌, ◌-◌, ◌*◌, ◌/◌, ◌%◌, ◌≤◌, ◌<◌, min, cond, eqb, List, [], ◌++◌, length, take, drop, Result, Ok, Err, append_assoc, refl, sym, ap, ap₂, ◌∙◌, subst, inl, inr, arith}
 use Rattle.std.proofs.lemmas.Bool.{cases_eq, cases_lt, eq-eqb, ne_eqb}
 use Rattle.std.proofs.lemmas.Nat.{mod_below, div-add-mod', div_below}
 use Rattle.std.proofs.Math.Seq.{take-append-add}
@@ -11,8 +11,12 @@ use Rattle.device.specs.Answer.{Answer}
 use Rattle.device.specs.Program.{Program, done, bind, Meaning, Fits, Sized}
 use Rattle.device.specs.Run.{Ran}
 use Rattle.device.proofs.Runs.{ran-bind, ran-put, ran-then}
-use Rattle.volume.specs.Fetches.{blocks, touched, fetch_blocks}
-use Rattle.reader.specs.Gather.{cut, prefixed, part_of, with_part, gather}
+use Rattle.volume.specs.declared.fault.VolumeFault.{VolumeFault}
+use Rattle.volume.specs.declared.fault.VolumeFault.TheVariants.{Storage}
+use Rattle.volume.specs.Fetches.{blocks, by_blocks, give, touched}
+use Rattle.reader.specs.Fetched.{Fetched}
+use Rattle.reader.specs.Gather.{bytes_at, cut, prefixed, part_of, with_part, gather}
+use Rattle.reader.proofs.Running.{ran-fetched}
 
 -- how many blocks n bytes from byte `skip` of a block touch
 abbrev count : ℕ → ℕ → ℕ → ℕ
@@ -159,10 +163,19 @@ module _ {S R : Type 0} (meaning : S → Meaning R) (moves : S → Question → 
             (u, went.1, by_answer k b skip n inside u t answer (λ x r. gathered k (suc b) 0 (n - min n (d - skip)) (omega arith) some u x t r) (meaning s [] q) (sized s [] q) went.2)
       ]
 
-  -- and so gathering from an offset is a fetch
-  pub fetched : (from n k : ℕ) → n ≤ k → (s : S) (answer : Answer R) (t : S) → Ran meaning moves s (gather d k (from / d) (from % d) n) answer t → Ran meaning moves s (fetch_blocks d from n) answer t
+  -- and so gathering from an offset is a fetch, whose fault has that place
+  abbrev placed : ℕ → Answer R → Result (List ℕ) (VolumeFault R)
+  placed from (Ok bytes) = Ok bytes
+  placed from (Err fault) = Err (Storage from fault)
+
+  pub fetched : (from n k : ℕ) → n ≤ k → (s : S) (answer : Answer R) (t : S) → Ran meaning moves s (gather d k (from / d) (from % d) n) answer t → Fetched meaning moves d s (bytes_at from n) (placed from answer) t
   fetched from n k room s answer t ran =
-      subst (λ c. Ran meaning moves s (row c (from / d) (from % d) n) answer t) (same_count d from n some) (gathered k (from / d) (from % d) n room (mod_below from d some) s answer t ran)
+      ran-fetched meaning moves d from n (λ fault. Storage from fault) (λ bytes. give bytes) s t t answer (placed from answer)
+      (subst (λ c. Ran meaning moves s (row c (from / d) (from % d) n) answer t) (same_count d from n some) (gathered k (from / d) (from % d) n room (mod_below from d some) s answer t ran)) (ends answer)
+    where
+      ends : (answer : Answer R) → Ran meaning moves t (elim answer as (λ x. Program R (Result (List ℕ) (VolumeFault R))) [ Ok bytes ↦ by_blocks d (give bytes) | Err fault ↦ done (Err (Storage from fault)) ]) (placed from answer) t
+      ends (Ok bytes) = (refl, refl)
+      ends (Err fault) = (refl, refl)
 
   -- fronts in a row
   fronts : (a b : List ℕ) (answer : Answer R) → prefixed a (prefixed b answer) ≡ prefixed (a ++ b) answer

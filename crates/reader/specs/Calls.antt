@@ -9,8 +9,8 @@ use Rattle.calls.specs.declared.refusal.Refusal.{Refusal}
 use Rattle.calls.specs.Calls as calls
 use Rattle.calls.specs.Mount.{image_length}
 use Rattle.reader.specs.declared.handle.Handle.{Handle}
-use Rattle.reader.specs.declared.handle.Position.{Position}
-use Rattle.reader.specs.declared.state.Nth.{Nth}
+use Rattle.reader.specs.declared.position.Position.{Position}
+use Rattle.reader.specs.declared.nth.Nth.{Nth}
 use Rattle.reader.specs.declared.state.State.{State}
 use Rattle.reader.specs.Fetched.{Fetched}
 

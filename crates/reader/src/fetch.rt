@@ -4,7 +4,6 @@ ghost use Rattle.device.specs.Answer.{answered};
 ghost use Rattle.device.specs.Run.{Ran};
 ghost use Rattle.reader.specs.Fetched.{Fetched};
 ghost use Rattle.reader.specs.Gather.{bytes_at, part_of};
-ghost use Rattle.volume.specs.Fetches.{fetch_blocks};
 
 use crate::block::BlockSize;
 use device::{Area, Device, wipe};
@@ -35,14 +34,14 @@ fn read_part<D: Device>(
 }
 
 // The bytes of the volume from an offset on, as many as the buffer has.
-fn fetch<D: Device>(
+pub(crate) fn fetch<D: Device>(
     store: &mut D,
     block: BlockSize,
     from: u32,
     buf: &mut [u8],
-) -> Result<(), D::Refusal>
+) -> Result<(), VolumeFault<D::Refusal>>
     requires { from + length buf.old ≤ 4294967296 }
-    ensures run { Ran D.meaning D.moves store.old (fetch_blocks block.bytes from (length buf.old)) (answered result buf.new) store.new }
+    ensures run { Fetched D.meaning D.moves block.bytes store.old (bytes_at from (length buf.old)) (answered result buf.new) store.new }
     ensures zeros { OnErr result (buf.new ≡ replicate (length buf.old) 0) }
 {
     let mut done = 0;
@@ -53,26 +52,9 @@ fn fetch<D: Device>(
         let number = (at / block.bytes) as u32;
         if let Err(fault) = read_part(store, block, number, skip, &mut buf[done..done + size]) {
             wipe(buf);
-            return Err(fault);
+            return Err(VolumeFault::from((fault, from)));
         }
         done += size;
     }
     Ok(())
-}
-
-// The same, with the fault put with its place.
-pub(crate) fn fetch_at<D: Device>(
-    store: &mut D,
-    block: BlockSize,
-    from: u32,
-    buf: &mut [u8],
-) -> Result<(), VolumeFault<D::Refusal>>
-    requires { from + length buf.old ≤ 4294967296 }
-    ensures run { Fetched D.meaning D.moves block.bytes store.old (bytes_at from (length buf.old)) (answered result buf.new) store.new }
-    ensures zeros { OnErr result (buf.new ≡ replicate (length buf.old) 0) }
-{
-    match fetch(store, block, from, buf) {
-        Ok(()) => Ok(()),
-        Err(fault) => Err(VolumeFault::from((fault, from))),
-    }
 }

@@ -6,7 +6,7 @@ ghost use Rattle.reader.specs.Fetched.{Fetched};
 ghost use Rattle.reader.specs.Gather.{bytes_at};
 
 use crate::block::BlockSize;
-use crate::fetch::fetch_at;
+use crate::fetch::fetch;
 use device::{Device, wipe};
 use volume::VolumeFault;
 
@@ -25,5 +25,5 @@ pub(crate) fn read_front<D: Device>(
     ensures zeros { OnErr result (buf.new ≡ replicate (length buf.old) 0) }
 {
     wipe(buf);
-    fetch_at(store, block, from, &mut buf[..count])
+    fetch(store, block, from, &mut buf[..count])
 }

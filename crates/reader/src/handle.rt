@@ -1,5 +1,5 @@
 // Files that are open.
-ghost use Rattle.std.specs.Prelude.{◌≡◌, ◌<◌, ◌+◌, ◌-◌, true, false, min, nat_lt, IfNone, IfSome};
+ghost use Rattle.std.specs.Prelude.{◌≡◌, ◌<◌, ◌+◌, false, nat_lt};
 
 use volume::Start;
 
@@ -9,15 +9,6 @@ use volume::Start;
 pub struct Handle {
     pub(crate) start: u32,
     pub(crate) size: u32,
-}
-
-/// A place in an open file.
-#[derive(Clone, Copy)]
-pub struct Position<'a> {
-    /// The file.
-    pub handle: &'a Handle,
-    /// Bytes from the file's start.
-    pub offset: usize,
 }
 
 impl Handle {
@@ -46,21 +37,5 @@ impl Handle {
     // Ends it.
     pub(crate) fn spend(self) {
         let Handle { start: _, size: _ } = self;
-    }
-}
-
-impl Position<'_> {
-    // How many bytes there are from it on, `n` at most; none is answered behind the end.
-    pub(crate) fn count(&self, n: usize) -> Option<usize>
-        ensures behind { IfNone result (nat_lt self.now.handle.now.size self.now.offset ≡ true) }
-        ensures near { IfSome result (λ c. nat_lt self.now.handle.now.size self.now.offset ≡ false) }
-        ensures value { IfSome result (λ c. c ≡ min n (self.now.handle.now.size - self.now.offset)) }
-    {
-        let size = self.handle.size as usize;
-        if size < self.offset {
-            None
-        } else {
-            Some(n.min(size - self.offset))
-        }
     }
 }

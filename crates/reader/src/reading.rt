@@ -7,7 +7,7 @@ ghost use Rattle.volume.specs.Sizes.{header_size};
 ghost use Rattle.reader.specs.Fetched.{Reads};
 ghost use Rattle.reader.specs.Header.{read_of};
 
-use crate::fetch::fetch_at;
+use crate::fetch::fetch;
 use crate::header::Header;
 use crate::romfs::Romfs;
 use device::Device;
@@ -48,7 +48,7 @@ fn read_header<D: Device>(
     }
     let mut bytes = [0; HEADER_SIZE];
     let bytes = &mut bytes[..fetch_size(&romfs.start, at)];
-    fetch_at(store, romfs.block, at, bytes)?;
+    fetch(store, romfs.block, at, bytes)?;
     Header::from_bytes(at, bytes)
 }
 

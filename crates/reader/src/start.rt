@@ -9,7 +9,7 @@ ghost use Rattle.std.specs.Str.{bytes_eq};
 ghost use Rattle.reader.specs.Fetched.{Fetched};
 
 use crate::block::BlockSize;
-use crate::fetch::fetch_at;
+use crate::fetch::fetch;
 use crate::words::{is_16, sums_to_zero, word, zero_at};
 use device::Device;
 use geometry::Geometry;
@@ -90,6 +90,6 @@ pub(crate) fn read_start<D: Device>(
     ensures { Fetched D.meaning D.moves block.bytes store.old (start_rules limit) result store.new }
 {
     let mut bytes = [0; 512];
-    fetch_at(store, block, 0, &mut bytes)?;
+    fetch(store, block, 0, &mut bytes)?;
     start_of(limit, &bytes)
 }

@@ -2,10 +2,12 @@
 ghost use Rattle.std.specs.Prelude.{◌≡◌, None};
 
 use crate::block::BlockSize;
-use crate::fetch::fetch_at;
+use crate::fetch::fetch;
 use crate::front::read_front;
-use crate::handle::{Handle, Position};
+use crate::handle::Handle;
+use crate::nth::Nth;
 use crate::paths::{list_path, open_path};
+use crate::position::Position;
 use crate::romfs::Romfs;
 use crate::start::{image_size, read_start};
 use calls::{MountRule, Refusal};
@@ -20,15 +22,6 @@ pub struct State {
     pub(crate) begun: Option<Start>,
     pub(crate) held: u16,
     ghost none: { begun ≡ None → held ≡ 0 },
-}
-
-/// An entry of the directory that a path names, by its number: they count from 0, without `.` and `..`.
-#[derive(Clone, Copy)]
-pub struct Nth<'a> {
-    /// The path of the directory.
-    pub path: &'a [u8],
-    /// The number of the entry.
-    pub index: usize,
 }
 
 impl State {
@@ -154,7 +147,7 @@ impl State {
         if buf.len() != handle.size as usize {
             return Err((handle, Refusal::Mount(MountRule::Length)));
         }
-        match fetch_at(store, BlockSize::of(geometry), handle.start, buf) {
+        match fetch(store, BlockSize::of(geometry), handle.start, buf) {
             Ok(()) => {
                 handle.spend();
                 self.held -= 1;

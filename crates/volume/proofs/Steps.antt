@@ -1,6 +1,6 @@
 -- More steps along a list than the volume has bytes change nothing.
 use Rattle.std.proofs.Common.{◌≡◌, ◌⊎◌, ℕ, zero, suc, ◌+◌, ◌-◌, ◌≤◌, ◌<◌, ◌/◌, ◌%◌, min, Bool, true, false, cond, ◌&&◌, ◌||◌, not, leb, ltb, eqb, List, take, drop, Option, None, Some, Result, Ok, Err, refl, sym, ap, subst, inl, inr, arith, ◌==◌}
-use Rattle.std.proofs.lemmas.Bool.{or_parts, ltb-false, leb-false, eqb-true, eqb-false, eq-eqb}
+use Rattle.std.proofs.lemmas.Bool.{or_parts, ltb-false, leb-false, eqb-true, eqb-false, eq-eqb, ne_eqb}
 use Rattle.volume.specs.declared.types.Start.{Start}
 use Rattle.volume.specs.declared.fault.VolumeRule.TheVariants.{Range, Name, HeaderSum, Next}
 use Rattle.volume.specs.declared.fault.VolumeFault.{VolumeFault}
@@ -10,7 +10,7 @@ use Rattle.volume.specs.declared.fault.PathFault.TheVariants.{Rule, Volume}
 use Rattle.volume.specs.Fetches.{Fetches, give, refuse, fetch, after, put, settled}
 use Rattle.volume.specs.Words.{word, sums_to_zero, up_to_16, zero_at}
 use Rattle.volume.specs.Header.{Header, kind_of, is_name, named, header_of, header}
-use Rattle.volume.specs.Walk.{Sought, behind, is_it, is_dots, seek}
+use Rattle.volume.specs.Walk.{Sought, behind, is_it, is_dots, seek, find}
 use Rattle.volume.proofs.Gives.{Gives, gives-put, gives-settled}
 use Rattle.volume.proofs.Rules.{ok_behind}
 
@@ -128,3 +128,19 @@ module _ {F : Type 0} (start : Start) (place : ℕ) where
       let f_enough = next_enough start f at h some one within in
       let g_enough = next_enough start g at h some other within in
       cond-alike (is_dots h.name) (steps f g sought h.next f_enough g_enough) (cond-alike (is_it sought h.name) refl (steps f g (behind sought) h.next f_enough g_enough))))
+
+  -- so a list that is not empty is the header there and the list behind it
+  pub find-goes : (sought : Sought) (at : ℕ) → (at ≡ 0 → ⊥)
+      → find {F = F} start place sought at ≡ after (put (λ fault. Volume place fault) (header start at)) (λ h. cond (is_dots h.name) (find start place sought h.next) (cond (is_it sought h.name) (give h) (find start place (behind sought) h.next)))
+  unfolding seek
+  find-goes sought at there =
+      rw (ne_eqb at 0 there)
+      (after-alike (Within start at) (put (λ fault. Volume place fault) (header start at)) _ _ (gives-put (Within start at) (λ fault. Volume place fault) (header start at) (header-on F start at))
+      (λ h within.
+      let less = next_enough start start.size at h there (inr (omega arith, omega arith)) within in
+      let more = next_enough start (suc start.size) at h there (inr (omega arith, omega arith)) within in
+      cond-alike (is_dots h.name) (steps start.size (suc start.size) sought h.next less more) (cond-alike (is_it sought h.name) refl (steps start.size (suc start.size) (behind sought) h.next less more))))
+
+  -- and an empty one has nothing
+  pub find-ends : (sought : Sought) (at : ℕ) → at ≡ 0 → find {F = F} start place sought at ≡ refuse (Rule place Missing)
+  find-ends sought at none = none-left (suc start.size) sought at none

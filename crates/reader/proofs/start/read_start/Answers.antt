@@ -3,16 +3,16 @@ use Rattle.volume.specs.Start.{start, start_of}
 use Rattle.reader.proofs.Running.{err-is, ran-parsed}
 use Rattle.reader.proofs.start.read_start.Goals as goal
 
-pub returns-in_err-fetch_at : goal.returns-in_err-fetch_at
+pub returns-in_err-fetch : goal.returns-in_err-fetch
 unfolding start
-returns-in_err-fetch_at g c =
+returns-in_err-fetch g c =
     let a = c.args in
-    let fault = c.in_err-fetch_at.field-0.0 in
+    let fault = c.in_err-fetch.field-0.0 in
     rw (err-is c.from_residual.result fault c.from_residual.ensures)
-    (ran-parsed g.D.Device.meaning g.D.Device.moves a.block.bytes 0 512 512 refl (start_of a.limit) a.store.now c.fetch_at.new.store (Err fault) c.in_err-fetch_at.ensures.run)
+    (ran-parsed g.D.Device.meaning g.D.Device.moves a.block.bytes 0 512 512 refl (start_of a.limit) a.store.now c.fetch.new.store (Err fault) c.in_err-fetch.ensures.run)
 
 pub returns : goal.returns
 unfolding start
 returns g c =
     let a = c.args in
-    rw c.start_of.ensures (ran-parsed g.D.Device.meaning g.D.Device.moves a.block.bytes 0 512 512 refl (start_of a.limit) a.store.now c.fetch_at.new.store (Ok c.fetch_at.new.buf) c.in_ok-fetch_at.ensures.run)
+    rw c.start_of.ensures (ran-parsed g.D.Device.meaning g.D.Device.moves a.block.bytes 0 512 512 refl (start_of a.limit) a.store.now c.fetch.new.store (Ok c.fetch.new.buf) c.in_ok-fetch.ensures.run)

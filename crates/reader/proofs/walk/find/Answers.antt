@@ -3,11 +3,8 @@ use Rattle.volume.specs.Walk.{is_dots, is_it}
 use Rattle.reader.specs.Header.{header_value}
 use Rattle.reader.specs.Sought.{sought_value}
 use Rattle.reader.proofs.Running.{err-is}
-use Rattle.reader.proofs.Seeking.{seeking-starts, seeking-ends, seeking-fault, seeking-found, seeking-dots, seeking-next}
+use Rattle.reader.proofs.Seeking.{seeking-ends, seeking-fault, seeking-found, seeking-dots, seeking-next}
 use Rattle.reader.proofs.walk.find.Goals as goal
-
-pub loop-at-init : goal.loop-at-init
-loop-at-init g c = seeking-starts g.D.Device.meaning g.D.Device.moves c.args.romfs.block.bytes c.args.romfs.start c.args.place c.args.store.now (sought_value c.args.sought) c.args.first
 
 pub returns-in_err-header : goal.returns-in_err-header
 returns-in_err-header g c =
@@ -34,7 +31,7 @@ loop-at-preserved-else-is_it g c =
     let plain : is_dots h.name ≡ false = sym (c.is_dots.ensures ∙ ap is_dots c.name.ensures) ∙ c.if-not-is_dots.true in
     let not_it : is_it (sought_value l.sought) h.name ≡ false = sym (c.is_it.ensures ∙ ap (is_it (sought_value l.sought)) c.name-then-not-is_dots.ensures) ∙ c.if-is_it.false in
     seeking-next g.D.Device.meaning g.D.Device.moves a.romfs.block.bytes a.romfs.start a.place a.store.now l.store (sought_value a.sought) (sought_value l.sought) a.first l.at l.invariant (omega arith) c.header_for.new.store h c.in_ok-header.ensures.run
-    c.in_ok-header.ensures.inside c.in_ok-header.ensures.rises plain not_it (sought_value c.behind.new.self) c.behind.ensures
+    plain not_it (sought_value c.behind.new.self) c.behind.ensures
 
 pub loop-at-preserved : goal.loop-at-preserved
 loop-at-preserved g c =
@@ -42,8 +39,7 @@ loop-at-preserved g c =
     let l = c.loop-at in
     let h = header_value c.in_ok-header.header in
     let dots : is_dots h.name ≡ true = sym (c.is_dots.ensures ∙ ap is_dots c.name.ensures) ∙ c.if-not-is_dots.false in
-    seeking-dots g.D.Device.meaning g.D.Device.moves a.romfs.block.bytes a.romfs.start a.place a.store.now l.store (sought_value a.sought) (sought_value l.sought) a.first l.at l.invariant (omega arith) c.header_for.new.store h c.in_ok-header.ensures.run
-    c.in_ok-header.ensures.inside c.in_ok-header.ensures.rises dots
+    seeking-dots g.D.Device.meaning g.D.Device.moves a.romfs.block.bytes a.romfs.start a.place a.store.now l.store (sought_value a.sought) (sought_value l.sought) a.first l.at l.invariant (omega arith) c.header_for.new.store h c.in_ok-header.ensures.run dots
 
 pub returns : goal.returns
 returns g c =

@@ -9,12 +9,12 @@ pub returns-in-Ok-clause-run : goal.returns-in-Ok-clause-run
 returns-in-Ok-clause-run g c =
     let a = c.args in
     let shape = shape_of a.geometry.now in
-    whole-ran g.D.Device.meaning g.D.Device.moves c.of.result.bytes shape.data_block (image_length shape) c.of.ensures (state_of a.self.now) a.store.now c.fetch_at.new.store c.in-Some.start c.in-Some.is (extent_of a.handle)
-    (sym c.is_outside.ensures.value ∙ c.if-is_outside.false) (length a.buf.now) (length c.wipe.new.buf) c.wipe.auto.buf c.if-self-eq0.false c.if-buf-handle.false (Ok c.fetch_at.new.buf) c.in-Ok.ensures.run
+    whole-ran g.D.Device.meaning g.D.Device.moves c.of.result.bytes shape.data_block (image_length shape) c.of.ensures (state_of a.self.now) a.store.now c.fetch.new.store c.in-Some.start c.in-Some.is (extent_of a.handle)
+    (sym c.is_outside.ensures.value ∙ c.if-is_outside.false) (length a.buf.now) (length c.wipe.new.buf) c.wipe.auto.buf c.if-self-eq0.false c.if-buf-handle.false (Ok c.fetch.new.buf) c.in-Ok.ensures.run
 
 pub returns-in-Err-clause-run : goal.returns-in-Err-clause-run
 returns-in-Err-clause-run g c =
     let a = c.args in
     let shape = shape_of a.geometry.now in
-    whole-ran g.D.Device.meaning g.D.Device.moves c.of.result.bytes shape.data_block (image_length shape) c.of.ensures (state_of a.self.now) a.store.now c.fetch_at.new.store c.in-Some.start c.in-Some.is (extent_of a.handle)
+    whole-ran g.D.Device.meaning g.D.Device.moves c.of.result.bytes shape.data_block (image_length shape) c.of.ensures (state_of a.self.now) a.store.now c.fetch.new.store c.in-Some.start c.in-Some.is (extent_of a.handle)
     (sym c.is_outside.ensures.value ∙ c.if-is_outside.false) (length a.buf.now) (length c.wipe.new.buf) c.wipe.auto.buf c.if-self-eq0.false c.if-buf-handle.false (Err c.in-Err.fault) c.in-Err.ensures.run
