@@ -1,14 +1,10 @@
 -- Programs of questions to a store of the publisher's blocks: what holds at their end, if each answer is the publisher's block
 -- or one fault, after which nothing is asked.
 use Rattle.std.proofs.Common.{◌≡◌, ℕ, true, List, Option, None, Some, Ok, Err}
-use Rattle.device.specs.declared.question.Question.{Question}
-use Rattle.device.specs.Answer.{Answer}
-use Rattle.device.specs.Program.{Program, done, ask, bind, Exchange, Somewhere}
+use Rattle.device.specs.Program.{Program, done, ask, bind}
 use Rattle.layers.specs.declared.fault.StorageFault.{StorageFault}
-use Rattle.layers.specs.declared.fault.StorageFault.TheVariants.{Label, NoBlock, Refused, Mismatch}
 use Rattle.layers.specs.Verity.{is_block}
-use Rattle.layers.specs.Publisher.{Publisher, right_block, Differs, NoTwin}
-use Rattle.layers.specs.Judged.{IsFor, WasRefused, Judged}
+use Rattle.layers.specs.Publisher.{Publisher, right_block}
 
 -- what is to hold of a program's value, and of the fault that it saw
 abbrev pub Post : Type 0 → Type 0 → Type 1

@@ -1,8 +1,8 @@
 -- Where a store answers with the publisher's blocks, or names one to blame, so does any program through it.
-use Rattle.std.proofs.Common.{◌≡◌, ℕ, true, List, [], ◌∷◌, ◌++◌, Option, None, Some, IfSome, Ok, Err, sym, subst}
+use Rattle.std.proofs.Common.{◌≡◌, ℕ, List, [], ◌∷◌, ◌++◌, Option, None, Some, IfSome, Ok, Err}
 use Rattle.device.specs.declared.question.Question.{Question}
 use Rattle.device.specs.Answer.{Answer}
-use Rattle.device.specs.Program.{Program, done, ask, bind, Meaning, Exchange, Sized, after, result, asked, exchanges}
+use Rattle.device.specs.Program.{Program, done, ask, Meaning, Exchange, Sized, after, result, asked, exchanges}
 use Rattle.device.specs.Layer.{through}
 use Rattle.device.proofs.Exchanges.{sized-after, of-bind}
 use Rattle.layers.specs.declared.fault.StorageFault.{StorageFault}

@@ -20,7 +20,6 @@ use Rattle.calls.specs.Calls.{Call, State, Accepted, Reply, call_rules, reply_of
 use Rattle.calls.specs.Mount.{Mounted, image_length, by_label, mount}
 use Rattle.calls.specs.Image.{image_reply, image_state, named, blamed, blamed_if}
 use Rattle.calls.specs.Law.{IsToBlame}
-use Rattle.calls.proofs.Fair.{Fair}
 use Rattle.calls.proofs.Lift.{Ends, lift}
 use Rattle.calls.proofs.Fetching as fetching
 use Rattle.calls.proofs.Within.{Fits, call-clean}

@@ -54,10 +54,7 @@ impl Found {
     }
 }
 
-pub fn find_all<S: Store>(
-    heap: Global,
-    mount: &mut MountOver<S>,
-) -> anyhow::Result<Found>
+pub fn find_all<S: Store>(heap: Global, mount: &mut MountOver<S>) -> anyhow::Result<Found>
 where
     RefusalBelow<S>: fmt::Display,
 {

@@ -1,20 +1,19 @@
 -- The path check is a store, and so is a cache over one.
-use Rattle.std.proofs.Common.{◌≡◌, ℕ, ◌+◌, ◌%◌, ◌<◌, true, cond, leb, List, [], length, set, Option, None, Some, Ok, Err, refl, sym, ap, ◌∙◌, subst, inl, inr}
+use Rattle.std.proofs.Common.{◌≡◌, ℕ, ◌+◌, ◌%◌, cond, leb, List, [], length, set, Option, None, Some, Ok, Err, refl, sym, ap, ◌∙◌, subst, inl, inr}
 use Rattle.device.specs.declared.question.Question.{Question}
 use Rattle.device.specs.Answer.{Answer}
-use Rattle.device.specs.Program.{Program, done, bind, Meaning, Exchange, Sized, result, exchanges}
+use Rattle.device.specs.Program.{Program, done, bind, Meaning, Exchange, result, exchanges}
 use Rattle.device.specs.Run.{Ran}
 use Rattle.device.specs.Layer.{layered, through, Through}
 use Rattle.device.proofs.Runs.{Onward, ran-put, ran-then}
 use Rattle.device.proofs.Layers.{layer-answer}
 use Rattle.device.proofs.Exchanges.{of-put}
-use Rattle.tree.specs.Shape.{fanout}
 use Rattle.layers.specs.declared.fault.StorageFault.{StorageFault}
 use Rattle.layers.specs.declared.fault.StorageFault.TheVariants.{Label, NoBlock, Refused, Mismatch}
 use Rattle.layers.specs.Anchor.{Anchor}
-use Rattle.layers.specs.Verity.{is_block, verity, verity_layer}
+use Rattle.layers.specs.Verity.{verity, verity_layer}
 use Rattle.layers.specs.Cache.{Row, Table, find, keep, cached, cache_layer}
-use Rattle.layers.specs.Publisher.{Publisher, Whole, anchor_of, right_block, NoTwin}
+use Rattle.layers.specs.Publisher.{Publisher, anchor_of, right_block, NoTwin}
 use Rattle.layers.specs.Judged.{Judged}
 use Rattle.layers.specs.Laws.{Stops, NamesLast}
 use Rattle.layers.specs.Store.{StoreRule, path_check, cache_over, IsFair, GivesPublished, IsServed, ServesByPaths, AllRight, IsStore}

@@ -1,6 +1,6 @@
 -- Stores: what the fetches of a mount are put to. A store asks the device at the bottom, by what its label tells and by what it
 -- remembers.
-use Rattle.std.specs.Prelude.{◌≡◌, ◌⊎◌, ℕ, ◌<◌, true, List, [], Ok, Err, Option, Some, None, IfSome}
+use Rattle.std.specs.Prelude.{◌≡◌, ◌⊎◌, ℕ, ◌<◌, true, List, [], Ok, Err, Option, Some, IfSome}
 use Rattle.std.specs.List.{AllByRecursion}
 use Rattle.device.specs.declared.question.Question.{Question}
 use Rattle.device.specs.Answer.{Answer}
@@ -11,7 +11,7 @@ use Rattle.layers.specs.declared.fault.StorageFault.{StorageFault}
 use Rattle.layers.specs.declared.fault.StorageFault.TheVariants.{Label, NoBlock, Refused, Mismatch}
 use Rattle.layers.specs.Anchor.{Anchor}
 use Rattle.layers.specs.Verity.{is_block, verity}
-use Rattle.layers.specs.Cache.{Row, Table, empty, cache_layer}
+use Rattle.layers.specs.Cache.{Table, empty, cache_layer}
 use Rattle.layers.specs.Path.{IsPath, IsCut}
 use Rattle.layers.specs.Publisher.{Publisher, Whole, anchor_of, right_block, Differs, NoTwin}
 use Rattle.layers.specs.Judged.{IsFor, WasRefused}

@@ -19,10 +19,12 @@ pub trait Store: Device<Refusal = StorageFault<<Self::Bottom as Device>::Refusal
 
     // What it remembers between two questions.
     ghost Memory: { Type 0 };
+
     ghost memory: { Self → Memory };
 
     // What its label tells, unless it was refused.
     ghost label: { Self → Option Anchor };
+
     ghost bottom: { Self → Self.Bottom };
 
     // What it remembers at first, and what it asks the device at the bottom for a question.

@@ -10,7 +10,7 @@ use Rattle.layers.specs.Publisher.{Publisher, Whole, Honest, anchor_of}
 use Rattle.layers.proofs.Stores.{path_check-store, cache_over-store}
 use Rattle.layers.specs.Store.{path_check}
 use Rattle.calls.specs.Calls.{State, fresh}
-use Rattle.calls.specs.Mount.{Mounted, cached_check, made}
+use Rattle.calls.specs.Mount.{Mounted, cached_check}
 use Rattle.calls.specs.Law.{Event, Used, Kept, IsImage, all_exchanges}
 use Rattle.calls.proofs.Runs.{law_of_runs_lem, honest_is_image_lem}
 

@@ -9,7 +9,6 @@ use Rattle.geometry.specs.Limits.{within}
 use Rattle.geometry.proofs.Trees.{sound_salted}
 use Rattle.layers.specs.Anchor.{Anchor}
 use Rattle.layers.specs.Publisher.{Publisher, Whole, anchor_of}
-use Rattle.verity.specs.Anchored.{told_by}
 use Rattle.mount.specs.Law.{IsLabelOf}
 
 -- of a test that gave a value: it was passed, and the value is that one

@@ -2,7 +2,7 @@
 use Rattle.std.proofs.Common.{◌≡◌, ℕ, List, [], replicate, Result, Ok, Err, OnErr, Option, None, Some, option_map, refl, sym, ap, ◌∙◌, subst}
 use Rattle.device.specs.declared.question.Question.{Question}
 use Rattle.device.specs.declared.device.Device as device
-use Rattle.device.specs.Program.{Program, exchanges}
+use Rattle.device.specs.Program.{exchanges}
 use Rattle.device.specs.Run.{Ran}
 use Rattle.device.specs.Layer.{through}
 use Rattle.device.proofs.Runs.{ran-then}

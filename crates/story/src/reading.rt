@@ -61,10 +61,7 @@ where
     Ok(())
 }
 
-pub fn read_all<S: Store>(
-    rt: &HostRuntime,
-    files: Files<'_, S>,
-) -> anyhow::Result<()>
+pub fn read_all<S: Store>(rt: &HostRuntime, files: Files<'_, S>) -> anyhow::Result<()>
 where
     RefusalBelow<S>: fmt::Display,
 {

@@ -1,5 +1,4 @@
 use Rattle.std.proofs.Common.{rules}
-use Rattle.mount.specs.Mount.{Called}
 use Rattle.open_files.proofs.reading.read_whole.Goals as goal
 
 pub returns-in-Err-clause-none : goal.returns-in-Err-clause-none

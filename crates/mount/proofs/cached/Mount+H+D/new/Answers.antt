@@ -1,7 +1,5 @@
 use Rattle.std.proofs.Common.{ap, ◌∙◌}
 use Rattle.verity.specs.Layer as verity
-use Rattle.cache.specs.Layer as cache
-use Rattle.reader.specs.Calls.{state_of}
 use Rattle.mount.proofs.Laws.{cached-law}
 use Rattle.mount.proofs.Premises.{limits, whole}
 use Rattle.mount.proofs.cached.Mount+H+D.new.Goals as goal

@@ -1,4 +1,4 @@
-use Rattle.std.proofs.Common.{length, option_map, sym, ap, ◌∙◌}
+use Rattle.std.proofs.Common.{option_map, sym, ap, ◌∙◌}
 use Rattle.geometry.specs.Of.{shape_of}
 use Rattle.reader.specs.Calls.{gave_all, reads_whole, refused}
 use Rattle.mount.proofs.Stepping.{called, label_refused, told_still, without}
