@@ -3,20 +3,19 @@ ghost use Rattle.std.specs.Prelude.{◌≡◌, IfSome, length, take};
 ghost use Rattle.std.proofs.Props.{props};
 
 use device::Question;
-
-// The most bytes that a row takes.
-pub(crate) const ROW: usize = 4096;
+use geometry::BLOCK_LIMIT;
 
 #[derive(Clone, Copy)]
 pub(crate) struct Row {
     pub(crate) question: Option<Question>,
     // no heap: the question's bytes, and whatever was there behind them
-    pub(crate) bytes: [u8; ROW],
+    pub(crate) bytes: [u8; BLOCK_LIMIT],
     ghost whole: { IfSome question (λ q. length (take q.length bytes) ≡ q.length) } by { Prim.hlevel props },
 }
 
 impl Row {
     ghost use Rattle.std.specs.Prelude.{◌≡◌, ◌≤◌, MatchOption, None, Some};
+    ghost use Rattle.geometry.specs.Limits.{block_limit};
     ghost use Rattle.layers.specs.Cache.{row_for};
     ghost use Rattle.cache.specs.Rows.{row_of};
 
@@ -25,7 +24,7 @@ impl Row {
     {
         Row {
             question: None,
-            bytes: [0; ROW],
+            bytes: [0; BLOCK_LIMIT],
         }
     }
 
@@ -44,10 +43,10 @@ impl Row {
     // Writes the row anew.
     pub(crate) fn put(&mut self, question: Question, bytes: &[u8])
         requires whole { length bytes.now ≡ question.length }
-        requires short { length bytes.now ≤ 4096 }
+        requires short { length bytes.now ≤ block_limit }
         ensures { row_of self.new ≡ Some (record { question = question; bytes = bytes.now }) }
     {
-        let mut kept = [0; ROW];
+        let mut kept = [0; BLOCK_LIMIT];
         kept[..bytes.len()].copy_from_slice(bytes);
         *self = Row {
             question: Some(question),

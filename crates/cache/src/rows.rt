@@ -1,8 +1,9 @@
 // Four rows, written in turn.
 ghost use Rattle.std.specs.Prelude.{◌<◌};
 
-use crate::row::{ROW, Row};
+use crate::row::Row;
 use device::Question;
+use geometry::BLOCK_LIMIT;
 
 // Which row is written next.
 #[derive(Clone, Copy)]
@@ -63,7 +64,7 @@ impl Rows {
         requires { length bytes.now ≡ question.length }
         ensures { table_of self.new ≡ keep {R = Unit {0}} (table_of self.old) question (Ok bytes.now) }
     {
-        if bytes.len() > ROW {
+        if bytes.len() > BLOCK_LIMIT {
             return;
         }
         let row = &mut self.rows[self.turn.row];

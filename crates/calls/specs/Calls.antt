@@ -4,6 +4,7 @@ use Rattle.volume.specs.declared.types.Start.{Start}
 use Rattle.volume.specs.declared.types.Entry.{Entry}
 use Rattle.volume.specs.declared.fault.VolumeFault.TheVariants.{Storage}
 use Rattle.volume.specs.Fetches.{Fetches, give, refuse, fetch, after, put}
+use Rattle.volume.specs.Sizes.{name_size}
 use Rattle.volume.specs.Start.{start}
 use Rattle.volume.specs.Use.{Extent}
 use Rattle.volume.specs.Paths.{open_path, list_path}
@@ -86,7 +87,7 @@ whole_rules at s file n =
 -- an entry's name, with zeros behind it
 unfoldable pub list_rules : {F : Type 0} → Start → State → List ℕ → ℕ → ℕ → Rules F
 list_rules at s path index n =
-    cond (not (n == 128)) (no Length)
+    cond (not (n == name_size)) (no Length)
     (after (put (λ fault. Path fault) (list_path at path index)) (λ h. give (record { given = listed h.entry; buffer = filled_to n h.name; state = s })))
 
 unfoldable pub close_rules : {F : Type 0} → State → Rules F

@@ -6,6 +6,7 @@ use Rattle.device.specs.declared.question.Area.TheVariants.{Data, Tree}
 use Rattle.device.specs.declared.question.Question.{Question}
 use Rattle.device.specs.Answer.{Answer}
 use Rattle.device.specs.Program.{Program, done, ask}
+use Rattle.geometry.specs.Limits.{block_limit}
 
 pub record Row : Type 0 where
   pub question : Question
@@ -41,7 +42,7 @@ find q (row ∷ rows) = elim (row_for q row) [ Some bytes ↦ Some bytes | None 
 
 -- an accepted answer of at most 4,096 bytes goes into the next row in turn, the first following the fourth
 abbrev pub keep : {R : Type 0} → Table → Question → Answer R → Table
-keep table q (Ok bytes) = cond (nat_le (length bytes) 4096) (record { rows = set table.rows table.turn (Some (record { question = q; bytes = bytes })); turn = (table.turn + 1) % 4 }) table
+keep table q (Ok bytes) = cond (nat_le (length bytes) block_limit) (record { rows = set table.rows table.turn (Some (record { question = q; bytes = bytes })); turn = (table.turn + 1) % 4 }) table
 keep table q (Err refusal) = table
 
 -- with what the rows have for the question

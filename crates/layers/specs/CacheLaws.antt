@@ -5,6 +5,7 @@ use Rattle.device.specs.declared.question.Question.{Question}
 use Rattle.device.specs.Answer.{Answer}
 use Rattle.device.specs.Program.{Meaning, Exchange, Somewhere, result, asked, exchanges}
 use Rattle.device.specs.Layer.{state_after, meaning_after, asked_for}
+use Rattle.geometry.specs.Limits.{block_limit}
 use Rattle.layers.specs.Path.{given}
 use Rattle.layers.specs.Cache.{Row, Table, empty, find, cache_layer}
 
@@ -30,7 +31,7 @@ pub record Wrote (old : Table) (row : Row) (new : Table) : Type 0 where
 -- what the table is after the answer to a question that no row had: with a row for it, if it was accepted and has at most 4,096
 -- bytes, and else as it was
 abbrev pub Keeps : {R : Type 0} → Table → Question → Answer R → Table → Type 0
-Keeps old q (Ok bytes) new = (length bytes ≤ 4096 → Wrote old (record { question = q; bytes = bytes }) new) × (4096 < length bytes → new ≡ old)
+Keeps old q (Ok bytes) new = (length bytes ≤ block_limit → Wrote old (record { question = q; bytes = bytes }) new) × (block_limit < length bytes → new ≡ old)
 Keeps old q (Err refusal) new = new ≡ old
 
 -- a question to the cache after some others, from the empty table on

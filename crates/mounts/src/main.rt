@@ -14,12 +14,13 @@ use cases::Case;
 use digest::Sha256;
 use std::str;
 use using::list_first;
+use volume::NAME_SIZE;
 use volume_bytes::{SUM, volume_with};
 
 // The name of the first entry, by a function that is proved to keep the law.
 fn print_first(rt: &HostRuntime) -> anyhow::Result<()> {
     let card = Card::of(volume_with(SUM))?;
-    let mut name = [0; 128];
+    let mut name = [0; NAME_SIZE];
     let (_memory, answer) = list_first(Sha256, &card.label(), card.memory(), &mut name);
     let _entry = answer.map_err(|refusal| anyhow!("{refusal}"))?;
     println!(rt;

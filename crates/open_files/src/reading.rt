@@ -2,6 +2,7 @@
 ghost use Rattle.std.specs.Prelude.{◌≡◌, ◌≢◌, ◌↔◌, ◌<◌, ◌≤◌, ◌-◌, ◌==◌, Ok, IfErr, IfNone, IfOk, IfSome, IsTrue, length, position};
 ghost use Rattle.std.specs.List.{before_first, position_or_len};
 ghost use Rattle.reader.specs.Calls.{extent_of};
+ghost use Rattle.volume.specs.Sizes.{name_size};
 ghost use Rattle.calls.specs.Calls.{list, listed};
 ghost use Rattle.mount.specs.Mount.{Called, held_of, replied};
 ghost use Rattle.open_files.specs.Reading.{GaveNone, GaveWhole, NotRead, Refuses, WasRead, missing, name_of};
@@ -14,7 +15,7 @@ use mount::MountOver;
 use reader::Handle;
 use std::alloc::Global;
 use std::fmt;
-use volume::{Entry, PathFault, PathRule};
+use volume::{Entry, NAME_SIZE, PathFault, PathRule};
 
 /// Why there are no contents.
 #[derive(Debug, Drop)]
@@ -81,7 +82,7 @@ pub fn contents<S: Store>(
 #[derive(Clone, Copy)]
 pub struct Listed {
     pub entry: Entry,
-    name: [u8; 128],
+    name: [u8; NAME_SIZE],
 }
 
 impl Listed {
@@ -94,12 +95,12 @@ impl Listed {
     // Where the name ends: at the first zero, or at the end of the buffer.
     fn name_end(&self) -> usize
         ensures place { result ≡ position_or_len (λ byte. byte == 0) (name_of self.now) }
-        ensures within { result ≤ 128 }
+        ensures within { result ≤ name_size }
     {
-        self.first_zero().unwrap_or(128)
+        self.first_zero().unwrap_or(NAME_SIZE)
     }
 
-    /// The name: of the 128 bytes that the mount gave those before the first zero.
+    /// The name: of the 128 bytes that the mount gave, those before the first zero.
     pub fn name(&self) -> &[u8]
         ensures { result.now ≡ before_first (λ byte. byte == 0) (name_of self.now) }
     {
@@ -128,12 +129,12 @@ pub fn entry_at<S: Store>(
     index: usize,
 ) -> Result<Option<Listed>, Refusal<S::Refusal>>
     ensures held { held_of mount.new ≡ held_of mount.old }
-    ensures listed { IfOk result (λ found. IfSome found (λ l. Called mount.old (list path.now index 128) (replied listed (name_of l) (Ok l.entry)) mount.new)) }
-    ensures last { IfOk result (λ found. IfNone found (Refuses mount.old (list path.now index 128) (missing (length path.now)) mount.new)) }
-    ensures refused { IfErr result (λ why. Refuses mount.old (list path.now index 128) why mount.new) }
+    ensures listed { IfOk result (λ found. IfSome found (λ l. Called mount.old (list path.now index name_size) (replied listed (name_of l) (Ok l.entry)) mount.new)) }
+    ensures last { IfOk result (λ found. IfNone found (Refuses mount.old (list path.now index name_size) (missing (length path.now)) mount.new)) }
+    ensures refused { IfErr result (λ why. Refuses mount.old (list path.now index name_size) why mount.new) }
     ensures not_last { IfErr result (λ why. why ≢ missing (length path.now)) }
 {
-    let mut name = [0; 128];
+    let mut name = [0; NAME_SIZE];
     match mount.list(path, index, &mut name) {
         Ok(entry) => Ok(Some(Listed { entry, name })),
         Err(refusal) if is_behind_last(&refusal, path.len()) => Ok(None),

@@ -4,7 +4,7 @@ ghost use Rattle.geometry.specs.Of.{shape_of};
 
 use device::{Area, Device};
 use digest::Digest;
-use geometry::{Geometry, Label};
+use geometry::{BLOCK_LIMIT, Geometry, Label};
 use layers::{Level, Place, StorageFault};
 
 #[derive(Drop)]
@@ -53,6 +53,7 @@ impl<H: Digest> Anchored<H> {
     ghost use Rattle.std.specs.Str.{bytes_eq};
     ghost use Rattle.device.specs.Answer.{answered};
     ghost use Rattle.device.specs.Run.{Ran};
+    ghost use Rattle.geometry.specs.Limits.{block_limit};
     ghost use Rattle.tree.specs.Shape.{levels as levels_of};
     ghost use Rattle.layers.specs.Verity.{check_block, is_block, next_digest, tree_place, walk};
     ghost use Rattle.verity.specs.Anchored.{anchor_of};
@@ -84,7 +85,7 @@ impl<H: Digest> Anchored<H> {
 
     // Whether a block has this salted digest.
     fn has_digest(&self, block: &[u8], want: &[u8]) -> bool
-        requires { length block.now ≤ 4096 }
+        requires { length block.now ≤ block_limit }
         ensures { result ≡ bytes_eq ((anchor_of self.now).salted block.now) want.now }
     {
         let mut out = [0; 64];
@@ -111,7 +112,7 @@ impl<H: Digest> Anchored<H> {
         want: &[u8],
         buf: &mut [u8],
     ) -> Result<(), StorageFault<D::Refusal>>
-        requires { length buf.old ≤ 4096 }
+        requires { length buf.old ≤ block_limit }
         ensures run { Ran D.meaning D.moves below.old (check_block (anchor_of self.now) place (length buf.old) want.now) (answered result buf.new) below.new }
         ensures zeros { OnErr result (buf.new ≡ replicate (length buf.old) 0) }
     {
@@ -139,7 +140,7 @@ impl<H: Digest> Anchored<H> {
     {
         buf.fill(0);
         // no heap: as long as the longest tree block
-        let mut block = [0; 4096];
+        let mut block = [0; BLOCK_LIMIT];
         let block = &mut block[..self.geometry.hash_block()];
         let mut want = self.root;
         let want = &mut want[..self.digest.output_len()];
