@@ -1,10 +1,10 @@
 // The command `check`: every data block, and every file of the card.
 use crate::fault::Fault;
 use crate::open_card::Card;
-use calls::Refusal;
+use calls::{CallRefusal, Refusal};
 use device::{Area, Device};
 use digest::Digest;
-use layers::{Place, StorageFault};
+use layers::Place;
 use media::{Memory, Outside};
 use mount::Mount;
 use open_files::{ContentsFault, Listed, contents, entry_at};
@@ -14,7 +14,7 @@ use text::with_digest;
 use verity::Verity;
 use volume::{Kind, PathFault, PathRule};
 
-type Why = Refusal<StorageFault<Outside>>;
+type Why = CallRefusal<Outside>;
 
 #[derive(Clone, Copy)]
 struct Count {
@@ -91,7 +91,7 @@ fn check_blocks<H: Digest + Drop>(
 
 // The directories that are still to be listed, and the mount that they are of.
 #[derive(Drop)]
-struct Walk<'a, H: Digest> {
+struct Walk<'a, H: Digest + Drop> {
     mount: Mount<H, Memory<'a>>,
     left: Vec<Vec<u8>>,
 }
@@ -106,7 +106,7 @@ fn join(heap: Global, directory: &[u8], name: &[u8]) -> Result<Vec<u8>, AllocErr
     Ok(path)
 }
 
-impl<H: Digest> Walk<'_, H> {
+impl<H: Digest + Drop> Walk<'_, H> {
     // Names what is refused at a path, unless its block was named before.
     fn refuse(
         &mut self,

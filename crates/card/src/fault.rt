@@ -2,8 +2,7 @@
 use crate::build::NoTree;
 use crate::command::Misuse;
 use crate::open_card::NoCard;
-use calls::Refusal;
-use layers::StorageFault;
+use calls::CallRefusal;
 use media::Outside;
 use std::alloc::AllocError;
 use std::io;
@@ -24,7 +23,7 @@ pub enum Fault {
     Card(String, NoCard),
     // A call was refused.
     #[error("refused: {0}")]
-    Refused(Refusal<StorageFault<Outside>>),
+    Refused(CallRefusal<Outside>),
     // Some block or file of a card was refused.
     #[error("the card is not sound")]
     Unsound,

@@ -5,21 +5,20 @@ mod ending;
 
 use anyhow::anyhow;
 use calls::Refusal;
-use device::Device;
-use digest::{Digest, Sha256};
+use digest::Sha256;
 use ending::end;
 use label_text::LabelText;
-use layers::StorageFault;
+use layers::Store;
 use media::Memory;
-use mount::Mount;
+use mount::{Mount, MountOver};
 use std::{fs, str};
 
 // The front of a file: as many bytes as there are and the buffer takes, or a refusal and zeros.
-fn read_front<H: Digest, D: Device>(
-    mount: &mut Mount<H, D>,
+fn read_front<S: Store>(
+    mount: &mut MountOver<S>,
     path: &[u8],
     buf: &mut [u8],
-) -> Result<usize, Refusal<StorageFault<D::Refusal>>> {
+) -> Result<usize, Refusal<S::Refusal>> {
     buf.fill(0);
     mount.begin()?;
     let file = mount.open(path)?;

@@ -3,9 +3,9 @@ use crate::card::Card;
 use crate::expected::Expected;
 use crate::walk::find_all;
 use anyhow::{Context, anyhow, ensure};
-use device::Device;
 use digest::Digest;
-use mount::Mount;
+use layers::{RefusalBelow, Store};
+use mount::{Mount, MountOver};
 use open_files::{ContentsFault, contents};
 use sha2::{Digest as Hasher, Sha256};
 use std::alloc::Global;
@@ -28,13 +28,13 @@ fn is_no_file<R>(why: &ContentsFault<R>) -> bool {
 }
 
 // The contents of a file; and that everything else is no file.
-fn compare_contents<H: Digest, D: Device>(
+fn compare_contents<S: Store>(
     heap: Global,
-    mount: &mut Mount<H, D>,
+    mount: &mut MountOver<S>,
     expected: &Expected<'_>,
 ) -> anyhow::Result<()>
 where
-    D::Refusal: fmt::Display,
+    RefusalBelow<S>: fmt::Display,
 {
     let path = expected.path;
     match contents(heap, mount, path.as_bytes()) {

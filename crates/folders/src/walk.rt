@@ -1,8 +1,7 @@
 // Every entry of a card, by its path.
 use anyhow::anyhow;
-use device::Device;
-use digest::Digest;
-use mount::Mount;
+use layers::{RefusalBelow, Store};
+use mount::MountOver;
 use open_files::{Listed, entry_at};
 use std::alloc::{AllocError, Global};
 use std::collections::BTreeMap;
@@ -35,14 +34,14 @@ impl Found {
         Ok(())
     }
 
-    fn list<H: Digest, D: Device>(
+    fn list<S: Store>(
         &mut self,
         heap: Global,
-        mount: &mut Mount<H, D>,
+        mount: &mut MountOver<S>,
         directory: &[u8],
     ) -> anyhow::Result<()>
     where
-        D::Refusal: fmt::Display,
+        RefusalBelow<S>: fmt::Display,
     {
         for index in 0..usize::MAX {
             let found = entry_at(mount, directory, index).map_err(|why| anyhow!("{why}"))?;
@@ -55,12 +54,12 @@ impl Found {
     }
 }
 
-pub fn find_all<H: Digest, D: Device>(
+pub fn find_all<S: Store>(
     heap: Global,
-    mount: &mut Mount<H, D>,
+    mount: &mut MountOver<S>,
 ) -> anyhow::Result<Found>
 where
-    D::Refusal: fmt::Display,
+    RefusalBelow<S>: fmt::Display,
 {
     let mut found = Found {
         entries: BTreeMap::new(heap),

@@ -2,11 +2,9 @@
 use crate::card::Card;
 use crate::ending::end;
 use crate::volume_bytes::{SUM, chain, volume_with};
-use calls::Refusal;
-use device::Device;
-use digest::Digest;
-use layers::StorageFault;
-use mount::Mount;
+use calls::CallRefusal;
+use layers::Store;
+use mount::MountOver;
 use reader::Handle;
 use std::fmt;
 
@@ -28,7 +26,7 @@ pub enum Outcome {
 }
 
 impl Outcome {
-    fn refused<R>(refusal: &Refusal<StorageFault<R>>) -> Outcome {
+    fn refused<R>(refusal: &CallRefusal<R>) -> Outcome {
         Outcome::Refused(refusal.number())
     }
 
@@ -40,7 +38,7 @@ impl Outcome {
     }
 }
 
-fn begin<H: Digest, D: Device>(mount: &mut Mount<H, D>) -> Outcome {
+fn begin<S: Store>(mount: &mut MountOver<S>) -> Outcome {
     match mount.begin() {
         Ok(start) => Outcome::Started {
             size: start.size,
@@ -50,7 +48,7 @@ fn begin<H: Digest, D: Device>(mount: &mut Mount<H, D>) -> Outcome {
     }
 }
 
-fn open<H: Digest, D: Device>(mount: &mut Mount<H, D>, path: &str) -> Outcome {
+fn open<S: Store>(mount: &mut MountOver<S>, path: &str) -> Outcome {
     let _ = begin(mount);
     match mount.open(path.as_bytes()) {
         Ok(handle) => {
@@ -63,12 +61,12 @@ fn open<H: Digest, D: Device>(mount: &mut Mount<H, D>, path: &str) -> Outcome {
 }
 
 // Reads four bytes of `a` from an offset on.
-fn read_at<H: Digest, D: Device>(mount: &mut Mount<H, D>, f: usize) -> Outcome {
+fn read_at<S: Store>(mount: &mut MountOver<S>, offset: usize) -> Outcome {
     let _ = begin(mount);
     match mount.open(b"a") {
         Ok(handle) => {
             let mut buffer = [170; 4];
-            let answer = mount.read(&handle, f, &mut buffer);
+            let answer = mount.read(&handle, offset, &mut buffer);
             end(mount, handle);
             match answer {
                 Ok(count) => Outcome::Read { count, buffer },

@@ -2,13 +2,12 @@
 ghost use Rattle.std.specs.Prelude.{◌≡◌, ◌<◌, ◌-◌};
 ghost use Rattle.mount.specs.Mount.{held_of};
 
-use device::Device;
-use digest::Digest;
-use mount::Mount;
+use layers::Store;
+use mount::MountOver;
 use reader::Handle;
 
 // A close is refused only where no handle is held.
-pub(crate) fn end<H: Digest, D: Device>(mount: &mut Mount<H, D>, handle: Handle)
+pub(crate) fn end<S: Store>(mount: &mut MountOver<S>, handle: Handle)
     requires { 0 < held_of mount.old }
     ensures { held_of mount.new ≡ held_of mount.old - 1 }
 {

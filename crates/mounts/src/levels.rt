@@ -3,11 +3,12 @@ use crate::ending::end;
 use crate::volume_bytes::{BLOCK, filled_front};
 use anyhow::anyhow;
 use builder::{Source, build};
-use device::{Area, Device};
+use device::Area;
 use digest::{Digest, Sha256};
 use geometry::{Geometry, Label};
+use layers::{RefusalBelow, Store};
 use media::{Counting, Memory};
-use mount::Mount;
+use mount::{Mount, MountOver};
 use std::alloc::Global;
 
 // Bytes of a tree block.
@@ -86,9 +87,9 @@ impl Card {
     }
 }
 
-fn read_last_byte<H: Digest, D: Device>(mount: &mut Mount<H, D>) -> anyhow::Result<()>
+fn read_last_byte<S: Store>(mount: &mut MountOver<S>) -> anyhow::Result<()>
 where
-    D::Refusal: std::fmt::Display,
+    RefusalBelow<S>: std::fmt::Display,
 {
     mount.begin().map_err(|refusal| anyhow!("{refusal}"))?;
     let file = mount.open(b"a").map_err(|refusal| anyhow!("{refusal}"))?;

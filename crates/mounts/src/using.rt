@@ -1,32 +1,28 @@
 // A use of a mount of two calls: it keeps the law of runs, by the contracts of the mount alone.
 ghost use Rattle.std.specs.Prelude.{◌≡◌, OnErr, length, replicate};
-ghost use Rattle.calls.specs.Law.{Kept, Used};
-ghost use Rattle.calls.specs.Mount.{made};
-ghost use Rattle.verity.specs.Anchored.{told_by};
-ghost use Rattle.mount.specs.Law.{IsLabelOf};
-ghost use Rattle.mount.specs.Mount.{device_of, mounted_of};
-ghost use Rattle.mounts.specs.Using.{IsListing};
+ghost use Rattle.mount.specs.Mount.{UsedTo};
+ghost use Rattle.mounts.specs.Using.{IsListing, ListedFirst};
 
-use calls::Refusal;
-use device::Device;
+use calls::{CallRefusal, Refusal};
+use device::{Device, wipe};
 use digest::Digest;
 use geometry::Label;
-use layers::StorageFault;
-use mount::Mount;
+use layers::Store;
+use mount::{Mount, MountOver};
 use volume::Entry;
 
 // The first entry of the root directory, if begin is accepted.
-fn first_entry<H: Digest, D: Device>(
-    mount: &mut Mount<H, D>,
+fn first_entry<S: Store>(
+    mount: &mut MountOver<S>,
     buf: &mut [u8],
-) -> Result<Entry, Refusal<StorageFault<D::Refusal>>>
-    ensures calls { (xs : _) × Used D.meaning D.moves (mounted_of mount.old) (device_of mount.old) xs (mounted_of mount.new) (device_of mount.new) × IsListing xs (length buf.old) result buf.new }
+) -> Result<Entry, Refusal<S::Refusal>>
+    ensures calls { (xs : _) × UsedTo mount.old xs mount.new × IsListing xs (length buf.old) result buf.new }
     ensures zeros { OnErr result (buf.new ≡ replicate (length buf.old) 0) }
 {
     match mount.begin() {
         Ok(_start) => mount.list(b"", 0, buf),
         Err(refusal) => {
-            buf.fill(0);
+            wipe(buf);
             Err(refusal)
         }
     }
@@ -40,8 +36,8 @@ pub fn list_first<H: Digest + Drop, D: Device>(
     label: &Label<'_>,
     device: D,
     buf: &mut [u8],
-) -> (D, Result<Entry, Refusal<StorageFault<D::Refusal>>>)
-    ensures calls { (xs : _) × (n : _) × Used D.meaning D.moves (made (told_by H.NUMBER H.LEN H.meaning label.now)) device xs n result.0 × IsListing xs (length buf.old) result.1 buf.new × ((p : _) → IsLabelOf H.NUMBER H.LEN H.meaning p label.now → Kept D.meaning D.moves p device xs result.0) }
+) -> (D, Result<Entry, CallRefusal<D::Refusal>>)
+    ensures calls { ListedFirst D.meaning D.moves H.NUMBER H.LEN H.meaning label.now device (length buf.old) result.1 buf.new result.0 }
     ensures zeros { OnErr result.1 (buf.new ≡ replicate (length buf.old) 0) }
 {
     let mut mount = Mount::new(digest, label, device);

@@ -3,7 +3,7 @@ ghost use Rattle.std.specs.Prelude.{Some};
 ghost use Rattle.script.specs.Code.{block_code, code_text, storage_code, volume_code};
 
 use crate::bottom::BottomRefusal;
-use calls::Refusal;
+use calls::{CallRefusal, Refusal};
 use layers::{Level, Place, StorageFault};
 use std::fmt;
 use volume::{PathFault, VolumeFault};
@@ -61,7 +61,7 @@ impl<R: BottomRefusal> fmt::Display for VolumeCode<'_, R> {
 
 /// A refusal that prints in short, as `path@3(volume@96(11[level data block 7]))`.
 #[derive(Drop)]
-pub struct Code<'a, R>(pub &'a Refusal<StorageFault<R>>);
+pub struct Code<'a, R>(pub &'a CallRefusal<R>);
 
 impl<R: BottomRefusal> fmt::Display for Code<'_, R> {
     ghost output = { λ code. Some (code_text R.bottom code.0.now) };

@@ -6,8 +6,7 @@ ghost use Rattle.script.specs.Reply.{listed_text, reply_text};
 use crate::bottom::BottomRefusal;
 use crate::code::Code;
 use crate::name::Name;
-use calls::Refusal;
-use layers::StorageFault;
+use calls::CallRefusal;
 use std::fmt;
 use text::Digits;
 use volume::{Entry, Start};
@@ -35,7 +34,7 @@ pub enum Reply<'a, R> {
     Closed,
     Refused {
         call: Name,
-        refusal: Refusal<StorageFault<R>>,
+        refusal: CallRefusal<R>,
         buf: Option<&'a [u8]>,
     },
     /// The handle is spent, or never was.

@@ -1,7 +1,6 @@
 // Each line of a script is put to the mount, and answered by a line.
-use device::Device;
-use digest::Digest;
 use hex::FromHexError;
+use layers::{RefusalBelow, Store};
 use open_files::{FileFault, NotOpen, OpenFault, OpenFiles};
 use script::{BottomRefusal, Call, Name, PathWord, Reply};
 use std::alloc::{AllocError, Global};
@@ -12,9 +11,9 @@ use std::{io, str};
 const BUFFER_LIMIT: usize = 268435456;
 
 // A script's runtime, and the mount that it calls.
-pub struct Session<'a, H: Digest, D: Device> {
+pub struct Session<'a, S: Store> {
     pub rt: &'a HostRuntime,
-    pub files: OpenFiles<H, D>,
+    pub files: OpenFiles<S>,
 }
 
 // A buffer for a call, if there is memory for it.
@@ -37,12 +36,12 @@ fn path_bytes(heap: Global, path: PathWord<'_>) -> Result<Vec<u8>, AllocError> {
     }
 }
 
-impl<H: Digest, D: Device> Session<'_, H, D>
+impl<S: Store> Session<'_, S>
 where
-    D::Refusal: BottomRefusal,
+    RefusalBelow<S>: BottomRefusal,
 {
     // Prints the line of a reply.
-    fn say(&self, reply: &Reply<'_, D::Refusal>) -> io::Result<()> {
+    fn say(&self, reply: &Reply<'_, RefusalBelow<S>>) -> io::Result<()> {
         println!(self.rt; "{reply}")
     }
 
@@ -79,7 +78,7 @@ where
         &self,
         call: Name,
         handle: usize,
-        fault: FileFault<D::Refusal>,
+        fault: FileFault<RefusalBelow<S>>,
         buf: &[u8],
     ) -> io::Result<()> {
         match fault {

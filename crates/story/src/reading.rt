@@ -1,7 +1,6 @@
 // A table is read in the morning, other files at noon, and the table again after lunch.
 use anyhow::{Context, anyhow, ensure};
-use device::Device;
-use digest::Digest;
+use layers::{RefusalBelow, Store};
 use open_files::{OpenFiles, Opened};
 use std::{fmt, str};
 
@@ -17,11 +16,11 @@ const OTHERS: [&str; 4] = [
 // The food whose lines are printed.
 const FOOD: &str = "oats";
 
-type Files<'a, H, D> = &'a mut OpenFiles<H, D>;
+type Files<'a, S> = &'a mut OpenFiles<S>;
 
-fn open<H: Digest, D: Device>(files: Files<'_, H, D>, path: &str) -> anyhow::Result<Opened>
+fn open<S: Store>(files: Files<'_, S>, path: &str) -> anyhow::Result<Opened>
 where
-    D::Refusal: fmt::Display,
+    RefusalBelow<S>: fmt::Display,
 {
     files
         .open(path.as_bytes())
@@ -29,14 +28,14 @@ where
 }
 
 // Prints a file's lines on the food, or why it is refused, with not one byte of it.
-fn print<H: Digest, D: Device>(
+fn print<S: Store>(
     rt: &HostRuntime,
-    files: Files<'_, H, D>,
+    files: Files<'_, S>,
     path: &str,
     file: &Opened,
 ) -> anyhow::Result<()>
 where
-    D::Refusal: fmt::Display,
+    RefusalBelow<S>: fmt::Display,
 {
     let mut buf = vec![in rt.alloc(); b'?'; file.size as usize]?;
     match files.read(file.number, 0, buf.as_mut_slice()) {
@@ -62,12 +61,12 @@ where
     Ok(())
 }
 
-pub fn read_all<H: Digest, D: Device>(
+pub fn read_all<S: Store>(
     rt: &HostRuntime,
-    files: Files<'_, H, D>,
+    files: Files<'_, S>,
 ) -> anyhow::Result<()>
 where
-    D::Refusal: fmt::Display,
+    RefusalBelow<S>: fmt::Display,
 {
     let start = files.begin().map_err(|fault| anyhow!("{fault}"))?;
     println!(rt;
