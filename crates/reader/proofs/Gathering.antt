@@ -89,10 +89,13 @@ Going {S = S} {R = R} meaning moves d start from whole now at n front =
 
 module _ {S R : Type 0} (meaning : S → Meaning R) (moves : S → Question → S → Type 0) (sized : (s : S) → Sized (meaning s)) (d : ℕ) (some : 0 < d) where
   -- nothing is asked for nothing
-  pub gather-none : (k b skip n : ℕ) → n ≡ 0 → (s : S) → Ran meaning moves s (gather d k b skip n) (Ok []) s
+  empty : (k b skip n : ℕ) → n ≡ 0 → gather {F = R} d k b skip n ≡ done (Ok [])
   unfolding gather
-  gather-none zero b skip n none s = (refl, refl)
-  gather-none (suc k) b skip n none s = rw none (refl, refl)
+  empty zero b skip n none = refl
+  empty (suc k) b skip n none = rw none refl
+
+  pub gather-none : (k b skip n : ℕ) → n ≡ 0 → (s : S) → Ran meaning moves s (gather d k b skip n) (Ok []) s
+  gather-none k b skip n none s = subst (λ p. Ran meaning moves s p (Ok []) s) (sym (empty k b skip n none)) (refl, refl)
 
   module _ (k b skip n : ℕ) (more : n ≡ 0 → ⊥) (s : S) where
     abbrev size : ℕ
@@ -182,13 +185,6 @@ module _ {S R : Type 0} (meaning : S → Meaning R) (moves : S → Question → 
   fronts a b (Ok bytes) = ap (λ xs. Ok xs) (sym (append_assoc a b bytes))
   fronts a b (Err fault) = refl
 
-  -- nothing is left to gather
-  none-left : (k b skip n : ℕ) → n ≡ 0 → (s : S) (answer : Answer R) (t : S) → Ran meaning moves s (gather d k b skip n) answer t → (answer ≡ Ok []) × (t ≡ s)
-  unfolding gather
-  none-left zero b skip n none s answer t ran = (ran.0, ran.1)
-  none-left (suc k) b skip n none s answer t ran =
-      let at_end = rw (eq-eqb n 0 none) at ran in (at_end.0, at_end.1)
-
   module _ (start now then : S) (from whole at n size : ℕ) (front : List ℕ) (going : Going meaning moves d start from whole now at n front) (more : 0 < n) (sized' : size ≡ min n (d - at % d)) where
     fuel : going.0 ≡ suc (going.0 - 1)
     fuel = omega (arith, going.1)
@@ -222,8 +218,8 @@ module _ {S R : Type 0} (meaning : S → Meaning R) (moves : S → Question → 
         behind : (answer : Answer R) (end : S) → Ran meaning moves then (gather d (going.0 - 1) (next / d) (next % d) left) answer end → Ran meaning moves then (gather d (going.0 - 1) (suc (at / d)) 0 (n - min n (d - at % d))) answer end
         behind answer end ran = elim (cases_le n (d - at % d)) [
           | inl short ↦
-              let done_here = none-left (going.0 - 1) (next / d) (next % d) left (omega arith) then answer end ran in
-              rw (done_here.0, done_here.1) (gather-none (going.0 - 1) (suc (at / d)) 0 (n - min n (d - at % d)) (omega arith) then)
+              subst (λ p. Ran meaning moves then p answer end)
+              (empty (going.0 - 1) (next / d) (next % d) left (omega arith) ∙ sym (empty (going.0 - 1) (suc (at / d)) 0 (n - min n (d - at % d)) (omega arith))) ran
           | inr long ↦
               let parts = div-add-mod' at d in
               let inside = mod_below at d some in

@@ -4,7 +4,7 @@ use Rattle.std.specs.Str.{bytes_eq}
 use Rattle.std.proofs.lemmas.Bool.{or_parts, ltb-false}
 use Rattle.volume.specs.declared.types.Start.{Start}
 use Rattle.volume.specs.declared.types.Kind.{Kind}
-use Rattle.volume.specs.declared.types.Kind.TheVariants.{HardLink, Directory, File, SymbolicLink, BlockDevice, CharDevice, Socket, Pipe}
+use Rattle.volume.specs.declared.types.Kind.TheVariants.{HardLink, Directory, File}
 use Rattle.volume.specs.declared.fault.VolumeRule.{VolumeRule}
 use Rattle.volume.specs.declared.fault.VolumeRule.TheVariants.{Text, Size, Sum, VolumeName, Range, Info, Links, LinkedDirectory}
 use Rattle.volume.specs.declared.fault.VolumeFault.{VolumeFault}
@@ -15,6 +15,7 @@ use Rattle.volume.specs.declared.fault.PathFault.{PathFault}
 use Rattle.volume.specs.declared.fault.PathFault.TheVariants.{Rule, Volume}
 use Rattle.volume.specs.Fault.{volume_holds, path_holds}
 use Rattle.volume.specs.Fetches.{Fetches, give, refuse, fetch, after, put, settled}
+use Rattle.volume.specs.Sizes.{header_size, name_size}
 use Rattle.volume.specs.Words.{word, sums_to_zero, up_to_16, is_16, zero_at}
 use Rattle.volume.specs.Start.{magic, root_of, start_of, start}
 use Rattle.volume.specs.Header.{Header, named, header_of, header}
@@ -61,7 +62,7 @@ module _ (F : Type 0) (limit : ℕ) where
     unfolding header header_of Quiet
     header-clean at =
         clean-cond volume_holds limit (ltb at s.root || ltb s.size (at + 32)) (refuse (volume.Rule at Range))
-        (fetch at (min (at + 144) s.size - at) (λ fault. volume.Storage at fault) (λ bytes. settled (header_of at bytes))) (λ is. refl)
+        (fetch at (min (at + header_size) s.size - at) (λ fault. volume.Storage at fault) (λ bytes. settled (header_of at bytes))) (λ is. refl)
         (λ is.
         let low = ltb-false s.size (at + 32) (or_parts (ltb at s.root) (ltb s.size (at + 32)) is).1 in
         (omega arith, (λ f. refl), λ bytes. quiet_named F at bytes (zero_at (drop 16 bytes)) limit))
@@ -89,13 +90,13 @@ module _ (F : Type 0) (limit : ℕ) where
   unfolding start_of
   start-within bytes s is =
       let size = word bytes 8 in
-      let third : Result Start (VolumeFault F) = root_of size (zero_at (take 128 (drop 16 bytes))) in
+      let third : Result Start (VolumeFault F) = root_of size (zero_at (take name_size (drop 16 bytes))) in
       let second : Result Start (VolumeFault F) = cond (not (sums_to_zero (take (min 512 size) bytes))) (Err (volume.Rule 12 Sum)) third in
       let first : Result Start (VolumeFault F) = cond (not (is_16 size) || ltb limit size) (Err (volume.Rule 8 Size)) second in
       let a = ok_behind (not (bytes_eq (take 8 bytes) magic)) (volume.Rule 0 Text) first s is in
       let b = ok_behind (not (is_16 size) || ltb limit size) (volume.Rule 8 Size) second s a.1 in
       let c = ok_behind (not (sums_to_zero (take (min 512 size) bytes))) (volume.Rule 12 Sum) third s b.1 in
-      let same = root_size size (zero_at (take 128 (drop 16 bytes))) s c.1 in
+      let same = root_size size (zero_at (take name_size (drop 16 bytes))) s c.1 in
       omega (arith, ltb-false limit size (or_parts (not (is_16 size)) (ltb limit size) b.0).1)
 
 -- a program for a path: it stays within the image, and holds a fault of the device exactly where a fetch is refused
@@ -124,25 +125,15 @@ tidy_after F limit x next first then = clean-after path_holds limit x next first
 
 -- by the kind of a header
 tidy_directory : (F : Type 0) {X : Type 0} (limit : ℕ) (kind : Kind) (x y : Fetches F (PathFault F) X) → Tidy F limit x → Tidy F limit y → Tidy F limit (elim kind [ Directory ↦ x | _ ↦ y ])
-tidy_directory F limit HardLink x y one other = other
 tidy_directory F limit Directory x y one other = one
-tidy_directory F limit File x y one other = other
-tidy_directory F limit SymbolicLink x y one other = other
-tidy_directory F limit BlockDevice x y one other = other
-tidy_directory F limit CharDevice x y one other = other
-tidy_directory F limit Socket x y one other = other
-tidy_directory F limit Pipe x y one other = other
+tidy_directory F limit _ x y one other = other
 
 tidy_kind : (F : Type 0) {X : Type 0} (limit : ℕ) (kind : Kind) (a b c d : Fetches F (PathFault F) X) → Tidy F limit a → Tidy F limit b → Tidy F limit c → Tidy F limit d
     → Tidy F limit (elim kind [ File ↦ a | HardLink ↦ b | Directory ↦ c | _ ↦ d ])
+tidy_kind F limit File a b c d one two three four = one
 tidy_kind F limit HardLink a b c d one two three four = two
 tidy_kind F limit Directory a b c d one two three four = three
-tidy_kind F limit File a b c d one two three four = one
-tidy_kind F limit SymbolicLink a b c d one two three four = four
-tidy_kind F limit BlockDevice a b c d one two three four = four
-tidy_kind F limit CharDevice a b c d one two three four = four
-tidy_kind F limit Socket a b c d one two three four = four
-tidy_kind F limit Pipe a b c d one two three four = four
+tidy_kind F limit _ a b c d one two three four = four
 
 module _ (F : Type 0) (limit : ℕ) (s : Start) (fits : s.size ≤ limit) where
   tidy_header : (place at : ℕ) → Tidy F limit (put (λ fault. Volume place fault) (header s at))

@@ -8,6 +8,7 @@ use Rattle.volume.specs.declared.fault.VolumeFault.TheVariants as volume
 use Rattle.volume.specs.declared.fault.PathRule.TheVariants.{Missing}
 use Rattle.volume.specs.declared.fault.PathFault.TheVariants.{Rule, Volume}
 use Rattle.volume.specs.Fetches.{Fetches, give, refuse, fetch, after, put, settled}
+use Rattle.volume.specs.Sizes.{header_size}
 use Rattle.volume.specs.Words.{word, sums_to_zero, up_to_16, zero_at}
 use Rattle.volume.specs.Header.{Header, kind_of, is_name, named, header_of, header}
 use Rattle.volume.specs.Walk.{Sought, behind, is_it, is_dots, seek, find}
@@ -71,7 +72,7 @@ header-on : (F : Type 0) (start : Start) (at : ℕ) → Gives {F = F} (Within st
 unfolding header
 header-on F start at =
     gives_unless (Within start at) (ltb at start.root || ltb start.size (at + 32)) (volume.Rule at Range)
-    (fetch at (min (at + 144) start.size - at) (λ fault. volume.Storage at fault) (λ bytes. settled (header_of at bytes)))
+    (fetch at (min (at + header_size) start.size - at) (λ fault. volume.Storage at fault) (λ bytes. settled (header_of at bytes)))
     (λ fine bytes.
     gives-settled F (Within start at) (header_of at bytes)
     (λ h is. (ltb-false start.size (at + 32) (or_parts (ltb at start.root) (ltb start.size (at + 32)) fine).1, header_of-on F at bytes h is)))
