@@ -1,4 +1,4 @@
-// Devices at the bottom: memory, tape, a card that turns, and one that counts what another is asked.
+// Memory, tape, a device that changes from one memory to another, and one that counts the questions that the device below gets.
 #![tactic(auto)]
 
 mod counting;
