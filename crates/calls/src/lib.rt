@@ -4,5 +4,5 @@
 mod law;
 mod refusal;
 
-pub use law::{honest_is_image, law_of_runs};
+pub use law::{honest_cached_is_image, honest_is_image, law_of_cached_runs, law_of_runs};
 pub use refusal::{CallRefusal, MountRule, Places, Refusal};

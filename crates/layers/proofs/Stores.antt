@@ -118,3 +118,7 @@ module _ {R M : Type 0} (lower : StoreRule R M) where
 
     pub cache_over-store : IsStore (cache_over lower) Keeps
     cache_over-store = record { begins = λ p. ((tt, (tt, (tt, (tt, tt)))), laws.begins p); published = over_published; paths = over_paths }
+
+-- the cache over the path check
+pub cached_check-store : {R : Type 0} → IsStore (cache_over (path_check R)) (λ p both. AllRight p both.0 × Unit {0})
+cached_check-store {R = R} = cache_over-store (path_check R) (λ p none. Unit {0}) path_check-store

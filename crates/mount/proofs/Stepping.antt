@@ -1,5 +1,5 @@
 -- The steps of a mount, from the calls over its store.
-use Rattle.std.proofs.Common.{◌≡◌, ℕ, List, [], replicate, Result, Ok, Err, OnErr, Option, None, Some, option_map, refl, sym, ap, ◌∙◌, subst}
+use Rattle.std.proofs.Common.{◌≡◌, ℕ, List, [], replicate, Result, Ok, Err, OnErr, Option, None, Some, option_map, refl, sym, ap, ap₂, ◌∙◌, subst}
 use Rattle.device.specs.declared.question.Question.{Question}
 use Rattle.device.specs.declared.device.Device as device
 use Rattle.device.specs.Program.{exchanges}
@@ -12,13 +12,14 @@ use Rattle.geometry.specs.Of.{shape_of}
 use Rattle.layers.specs.declared.fault.StorageFault.{StorageFault}
 use Rattle.layers.specs.declared.store.Store as store
 use Rattle.layers.specs.Anchor.{Anchor}
+use Rattle.layers.specs.Store.{StoreRule}
 use Rattle.volume.specs.Fetches.{by_blocks}
 use Rattle.calls.specs.declared.refusal.MountRule.TheVariants.{Label}
 use Rattle.calls.specs.declared.refusal.Refusal.{Refusal}
 use Rattle.calls.specs.declared.refusal.Refusal.TheVariants.{Mount}
 use Rattle.calls.specs.Calls.{Call, Given, Accepted, Reply, call_rules, reply_of, room}
 use Rattle.calls.specs.Calls as calls
-use Rattle.calls.specs.Mount.{Mounted, by_label, image_length, mount}
+use Rattle.calls.specs.Mount.{Mounted, by_label, image_length, made, mount}
 use Rattle.calls.specs.Law.{Step}
 use Rattle.reader.specs.declared.handle.Handle.{Handle}
 use Rattle.reader.specs.declared.state.State.{State}
@@ -101,6 +102,11 @@ module _ {U B R : Type 0} (s : store.Ghosts U B R) (d : device.Ghosts U (Storage
     told_still X none =
         let same = ran-below e.meaning e.moves s.rule.step s.label s.memory s.bottom d.meaning d.moves each (by_label (s.label u) (state_of before) call) u (outcome given buffer after result) v run in
         some_label X geometry (s.label u) came.told (sym same.1 ∙ none)
+
+-- a mount that was just made
+pub made_is : {R M : Type 0} (store : StoreRule R M) (label told : Option Anchor) (memory : M) (state : calls.State) → label ≡ told → memory ≡ store.fresh → state ≡ calls.fresh
+    → (record { label = label; memory = memory; state = state }) ≡ made store told
+made_is store label told memory state is none new = ap₂ (λ l m. record { label = l; memory = m; state = state }) is none ∙ ap (λ s. record { label = told; memory = store.fresh; state = s }) new
 
 -- what holds whether a call is refused or not
 pub always : {X E : Type 0} (r : Result X E) (P : Type 0) → P → OnErr r P

@@ -1,10 +1,11 @@
 -- A mount's own values, as the rules take them, and its calls.
-use Rattle.std.specs.Prelude.{ℕ, List, Result, Ok, Err}
+use Rattle.std.specs.Prelude.{ℕ, List, [], Result, Ok, Err}
 use Rattle.device.specs.Program.{exchanges}
 use Rattle.layers.specs.declared.fault.StorageFault.{StorageFault}
 use Rattle.layers.specs.declared.store.Store as store
 use Rattle.calls.specs.declared.refusal.Refusal.{Refusal}
-use Rattle.calls.specs.Calls.{Call, Given, Reply}
+use Rattle.volume.specs.Use.{Extent}
+use Rattle.calls.specs.Calls.{Call, Given, Reply, close, closed}
 use Rattle.calls.specs.Mount.{Mounted, mount}
 use Rattle.calls.specs.Law.{Event, Step, Used}
 use Rattle.reader.specs.Calls.{state_of}
@@ -41,3 +42,7 @@ Called {s = s} {e = e} m call reply n = Step s.rule e.meaning e.moves (mounted_o
 -- calls take a mount from one value to another: a use, of which the law of runs speaks
 abbrev pub UsedTo : {S B R : Type 0} {s : store.Ghosts S B R} {d e : _} → MountOver S B R s d e → List (Event R) → MountOver S B R s d e → Type 0
 UsedTo {s = s} {e = e} m xs n = Used s.rule e.meaning e.moves (mounted_of m) (device_of m) xs (mounted_of n) (device_of n)
+
+-- a file is closed
+abbrev pub Closes : {S B R : Type 0} {s : store.Ghosts S B R} {d e : _} → MountOver S B R s d e → Extent → MountOver S B R s d e → Type 0
+Closes m file n = Called m (close file) (record { answer = Ok closed; buffer = [] }) n

@@ -10,6 +10,7 @@ use cache::Cache;
 use device::Device;
 use digest::Digest;
 use geometry::Label;
+use layers::Store;
 use reader::State;
 use verity::Verity;
 
@@ -21,7 +22,8 @@ impl<H: Digest + Drop, D: Device> Mount<H, D> {
     pub fn new(digest: H, label: &Label<'_>, device: D) -> Mount<H, D>
         ensures made { mounted_of result ≡ made (cached_check D.Refusal) (told_by H.NUMBER H.LEN H.meaning label.now) }
         ensures device { device_of result ≡ device }
-        ensures law { (p : _) → IsLabelOf H.NUMBER H.LEN H.meaning p label.now → LawFrom p result }
+        ensures store { ⟦<Cache<Verity<H, D>> as Store>⟧.rule ≡ cached_check D.Refusal }
+        ensures law { (p : _) → IsLabelOf H.NUMBER H.LEN H.meaning p label.now → LawFrom (cached_check D.Refusal) D.meaning D.moves p (mounted_of result) (device_of result) }
     {
         MountOver {
             store: Cache::new(Verity::new(digest, label, device)),

@@ -6,9 +6,9 @@ use Rattle.volume.specs.declared.fault.PathRule.TheVariants.{Missing}
 use Rattle.volume.specs.declared.fault.PathFault.TheVariants.{Rule}
 use Rattle.calls.specs.declared.refusal.Refusal.{Refusal}
 use Rattle.calls.specs.declared.refusal.Refusal.TheVariants.{Path}
-use Rattle.calls.specs.Calls.{Call, open_file, opened, whole, all, close, closed, room}
+use Rattle.calls.specs.Calls.{Call, open_file, opened, whole, all, room}
 use Rattle.mount.specs.declared.mount.MountOver.{MountOver}
-use Rattle.mount.specs.Mount.{Called}
+use Rattle.mount.specs.Mount.{Called, Closes}
 use Rattle.open_files.specs.declared.reading.ContentsFault.{ContentsFault}
 use Rattle.open_files.specs.declared.reading.ContentsFault.TheVariants.{Refused, Memory}
 use Rattle.open_files.specs.declared.reading.Listed.{Listed}
@@ -17,10 +17,6 @@ use Rattle.open_files.specs.Steps.{accepted}
 -- a call is refused, with zeros in its buffer
 abbrev pub Refuses : {S B R : Type 0} {s d e : _} → MountOver S B R s d e → Call → Refusal (StorageFault R) → MountOver S B R s d e → Type 0
 Refuses m call why n = Called m call (record { answer = Err why; buffer = replicate (room call) 0 }) n
-
--- a file is closed
-abbrev pub Closes : {S B R : Type 0} {s d e : _} → MountOver S B R s d e → Extent → MountOver S B R s d e → Type 0
-Closes m file n = Called m (close file) (accepted closed) n
 
 -- an open file is read whole, which closes it: these are its bytes
 abbrev pub GaveWhole : {S B R : Type 0} {s d e : _} → MountOver S B R s d e → Extent → List ℕ → MountOver S B R s d e → Type 0

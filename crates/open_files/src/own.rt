@@ -1,7 +1,6 @@
 // The mount's own handles: to close one is never refused.
 ghost use Rattle.std.specs.Prelude.{◌≡◌, ◌<◌, ◌-◌, Ok, []};
-ghost use Rattle.calls.specs.Calls.{close, closed};
-ghost use Rattle.mount.specs.Mount.{Called, held_of};
+ghost use Rattle.mount.specs.Mount.{Closes, held_of};
 ghost use Rattle.reader.specs.Calls.{extent_of};
 
 use layers::Store;
@@ -11,7 +10,7 @@ use reader::Handle;
 // Gives a handle back to the mount that holds it.
 pub(crate) fn give_back<S: Store>(mount: &mut MountOver<S>, handle: Handle)
     requires { 0 < held_of mount.old }
-    ensures step { Called mount.old (close (extent_of handle)) (record { answer = Ok closed; buffer = [] }) mount.new }
+    ensures step { Closes mount.old (extent_of handle) mount.new }
     ensures held { held_of mount.new ≡ held_of mount.old - 1 }
 {
     match mount.close(handle) {

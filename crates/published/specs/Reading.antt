@@ -18,14 +18,7 @@ use Rattle.calls.specs.Calls.{begin, open_file, read, close, opened, closed, cou
 use Rattle.calls.specs.Mount.{Mounted, cached_check, image_length, made}
 use Rattle.calls.specs.Image.{blamed_if}
 use Rattle.calls.specs.Law.{Event, Used, IsToBlame, all_exchanges}
-use Rattle.reader.specs.declared.handle.Handle.{Handle}
-use Rattle.reader.specs.Calls.{extent_of}
-use Rattle.mount.specs.declared.mount.MountOver.{MountOver}
-use Rattle.mount.specs.Mount.{Called, replied}
-
--- a file is closed
-abbrev pub IsClosed : {S B R : Type 0} {s d e : _} → MountOver S B R s d e → Handle → MountOver S B R s d e → Type 0
-IsClosed m file n = Called m (close (extent_of file)) (record { answer = Ok closed; buffer = [] }) n
+use Rattle.mount.specs.Mount.{replied}
 
 -- a reading's last call was refused, and so is the reading; its buffer of n bytes is all zeros
 abbrev pub Ends : {R : Type 0} → ℕ → Event R → Result ℕ (Refusal (StorageFault R)) → List ℕ → Type 0

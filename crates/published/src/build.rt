@@ -62,7 +62,7 @@ impl<'a, H: Digest + Copy> Published<'a, H> {
     pub fn mount<D: Device>(&self, device: D) -> Mount<H, D>
         ensures device { device_of result ≡ device }
         ensures made { mounted_of result ≡ made (cached_check D.Refusal) (Some (anchor_of (publisher_of self.now))) }
-        ensures law { LawFrom (publisher_of self.now) result }
+        ensures law { LawFrom (cached_check D.Refusal) D.meaning D.moves (publisher_of self.now) (mounted_of result) (device_of result) }
     {
         Mount::new(self.digest, &self.label(), device)
     }

@@ -3,8 +3,8 @@ ghost use Rattle.std.specs.Prelude.{◌≡◌, ◌<◌, List, OnErr, length, rep
 ghost use Rattle.calls.specs.Calls as calls_of;
 ghost use Rattle.calls.specs.Law.{Event};
 ghost use Rattle.reader.specs.Calls.{extent_of};
-ghost use Rattle.mount.specs.Mount.{Called, UsedTo, held_of, replied};
-ghost use Rattle.published.specs.Reading.{IsClosed, IsReading};
+ghost use Rattle.mount.specs.Mount.{Called, Closes, UsedTo, held_of, replied};
+ghost use Rattle.published.specs.Reading.{IsReading};
 
 use crate::published::Published;
 use calls::{CallRefusal, Refusal};
@@ -23,7 +23,7 @@ fn read_open<S: Store>(
 ) -> Result<usize, Refusal<S::Refusal>>
     requires { 0 < held_of mount.old }
     ensures zeros { OnErr result (buf.new ≡ replicate (length buf.old) 0) }
-    ensures steps { (k : _) × Called mount.old (calls_of.read (extent_of file) offset (length buf.old)) (replied calls_of.count buf.new result) k × IsClosed k file mount.new }
+    ensures steps { (k : _) × Called mount.old (calls_of.read (extent_of file) offset (length buf.old)) (replied calls_of.count buf.new result) k × Closes k (extent_of file) mount.new }
 {
     let answer = mount.read(&file, offset, buf);
     match mount.close(file) {
