@@ -16,6 +16,8 @@ use device::{Area, Device, Question};
 use geometry::Geometry;
 use layers::Store;
 
+/// A device that answers a question again from one of four rows, by area, number and length, and asks the one below for any other.
+/// An accepted answer of at most 4,096 bytes goes into the rows in turn.
 #[derive(Drop)]
 pub struct Cache<D: Device> {
     pub(crate) rows: Rows,
@@ -23,7 +25,7 @@ pub struct Cache<D: Device> {
 }
 
 impl<D: Device> Cache<D> {
-    // A cache that has nothing yet.
+    /// A cache that has nothing yet.
     pub fn new(below: D) -> Cache<D>
         ensures table { table result ≡ empty }
         ensures below { below_of result ≡ below }
@@ -34,14 +36,14 @@ impl<D: Device> Cache<D> {
         }
     }
 
-    // Gives the device below back.
+    /// Gives the device below back.
     pub fn into_below(self) -> D
         ensures { result ≡ below_of self }
     {
         self.below
     }
 
-    // The device below.
+    /// The device below.
     pub fn below(&self) -> &D
         ensures { result.now ≡ below_of self.now }
     {

@@ -73,10 +73,10 @@ open_rules at s path =
     (after (put (λ fault. Path fault) (open_path at path)) (λ file. give (record { given = opened file; buffer = []; state = record { begun = s.begun; held = s.held + 1 } })))
 
 unfoldable pub read_rules : {F : Type 0} → Start → State → Extent → ℕ → ℕ → Rules F
-read_rules at s file f n =
+read_rules at s file offset n =
     cond (nat_lt at.size (file.start + file.size)) (no Handle)
-    (cond (nat_lt file.size f) (no Offset)
-    (let c = min n (file.size - f) in after (bytes_of (file.start + f) c) (λ bytes. give (record { given = count c; buffer = filled_to n bytes; state = s }))))
+    (cond (nat_lt file.size offset) (no Offset)
+    (let c = min n (file.size - offset) in after (bytes_of (file.start + offset) c) (λ bytes. give (record { given = count c; buffer = filled_to n bytes; state = s }))))
 
 unfoldable pub whole_rules : {F : Type 0} → Start → State → Extent → ℕ → Rules F
 whole_rules at s file n =
@@ -97,7 +97,7 @@ close_rules s = cond (s.held == 0) (no Handle) (give (record { given = closed; b
 abbrev pub call_rules : {F : Type 0} → ℕ → State → Call → Rules F
 call_rules limit s begin = begin_rules limit s
 call_rules limit s (open_file path) = elim s.begun [ None ↦ no NotBegun | Some at ↦ open_rules at s path ]
-call_rules limit s (read file f n) = elim s.begun [ None ↦ no NotBegun | Some at ↦ read_rules at s file f n ]
+call_rules limit s (read file offset n) = elim s.begun [ None ↦ no NotBegun | Some at ↦ read_rules at s file offset n ]
 call_rules limit s (whole file n) = elim s.begun [ None ↦ no NotBegun | Some at ↦ whole_rules at s file n ]
 call_rules limit s (list path index n) = elim s.begun [ None ↦ no NotBegun | Some at ↦ list_rules at s path index n ]
 call_rules limit s (close file) = elim s.begun [ None ↦ no NotBegun | Some at ↦ close_rules s ]
@@ -106,7 +106,7 @@ call_rules limit s (close file) = elim s.begun [ None ↦ no NotBegun | Some at 
 abbrev pub room : Call → ℕ
 room begin = 0
 room (open_file path) = 0
-room (read file f n) = n
+room (read file offset n) = n
 room (whole file n) = n
 room (list path index n) = n
 room (close file) = 0

@@ -7,20 +7,20 @@ use layers::{Place, StorageFault};
 use std::fmt;
 use volume::{PathFault, VolumeFault};
 
-// The rules of the mount itself.
+/// The rules of the mount itself.
 #[derive(Clone, Copy, PartialEq, Eq, Debug, Drop)]
 pub enum MountRule {
-    // The label has a value outside its limit, or is another digest's.
+    /// The label has a value outside its limit, or is another digest's.
     Label = 2,
-    // The handle's file does not lie within the volume, or none is held.
+    /// The handle's file does not lie within the volume, or none is held.
     Handle = 50,
-    // The offset is behind the file's end.
+    /// The offset is behind the file's end.
     Offset = 51,
-    // The buffer's length.
+    /// The buffer's length.
     Length = 52,
-    // As many handles are held as can be.
+    /// As many handles are held as can be, 65,535.
     Held = 53,
-    // The mount has not begun.
+    /// The mount has not begun.
     NotBegun = 54,
 }
 
@@ -56,6 +56,8 @@ impl fmt::Display for MountRule {
     }
 }
 
+/// Why a call was refused: a rule of the mount, a fault of the volume, or one at a component of the path. `F` is the fault of the
+/// path check.
 #[derive(Clone, Copy, PartialEq, Eq, Debug, Drop)]
 pub enum Refusal<F> {
     Mount(MountRule),
@@ -66,8 +68,8 @@ pub enum Refusal<F> {
 /// Why a call of a mount was refused, over a device that refuses for a reason `R`.
 pub type CallRefusal<R> = Refusal<StorageFault<R>>;
 
-// The places of a refusal, one within the other: a component of the path, an offset of the volume, and a block of the tree
-// or the data.
+/// The places of a refusal, one within the other: the offset of a component of the path, an offset of the volume, and a block of
+/// the tree or the data.
 #[derive(Clone, Copy, PartialEq, Eq, Debug, Drop)]
 pub struct Places {
     pub path: Option<usize>,
@@ -103,7 +105,7 @@ fn volume_fault_places<R>(path: Option<usize>, fault: &VolumeFault<StorageFault<
 }
 
 impl<R> CallRefusal<R> {
-    // The number of the rule that is broken, or of the storage fault at the bottom.
+    /// The number of the rule that is broken, or of the storage fault at the bottom.
     pub fn number(&self) -> u8
         ensures { result ≡ refusal_number self.now }
     {
@@ -115,7 +117,7 @@ impl<R> CallRefusal<R> {
         }
     }
 
-    // Its places.
+    /// Its places; one that it has not is none.
     pub fn places(&self) -> Places
         ensures { result ≡ places_of self.now }
     {

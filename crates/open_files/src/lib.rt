@@ -1,7 +1,6 @@
 // A mount with its open files, each told by a number.
 #![tactic(auto)]
 
-mod calling;
 mod faults;
 mod files;
 mod own;

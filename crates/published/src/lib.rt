@@ -1,7 +1,6 @@
 // An image that was built, its label, and what is read from a card by it.
 #![tactic(auto)]
 
-mod build;
 mod published;
 mod read;
 

@@ -6,10 +6,8 @@ ghost use Rattle.reader.specs.Calls.{extent_of};
 ghost use Rattle.mount.specs.Mount.{Called, Closes, UsedTo, held_of, replied};
 ghost use Rattle.published.specs.Reading.{IsReading};
 
-use crate::published::Published;
-use calls::{CallRefusal, Refusal};
-use device::{Device, wipe};
-use digest::Digest;
+use calls::Refusal;
+use device::wipe;
 use layers::Store;
 use mount::MountOver;
 use reader::Handle;
@@ -33,7 +31,7 @@ fn read_open<S: Store>(
 }
 
 // Begins, opens the file at a path, reads and closes it.
-fn read_file<S: Store>(
+pub(crate) fn read_file<S: Store>(
     mount: &mut MountOver<S>,
     path: &[u8],
     offset: usize,
@@ -46,30 +44,4 @@ fn read_file<S: Store>(
     mount.begin()?;
     let file = mount.open(path)?;
     read_open(mount, file, offset, buf)
-}
-
-impl<H: Digest + Copy> Published<'_, H> {
-    ghost use Rattle.published.specs.Publisher.{publisher_of};
-    ghost use Rattle.published.specs.Reading.{WasRead};
-
-    /// Mounts what a device gives by this image's label, reads of the file at a path from an offset on, and closes it again.
-    ///
-    /// It answers how many bytes there are, at most as many as the buffer has; zeros stand behind them. What it answers is a
-    /// storage fault that names a block which was refused or is not the publisher's, or exactly what this image gives, its
-    /// bytes or its refusal, unless the device gave a twin: a wrong block with the right length and salted digest. Refused, the
-    /// buffer is all zeros. The device is given back as the reading left it.
-    pub fn read<D: Device>(
-        &self,
-        device: D,
-        path: &[u8],
-        offset: usize,
-        buf: &mut [u8],
-    ) -> (D, Result<usize, CallRefusal<D::Refusal>>)
-        ensures zeros { OnErr result.1 (buf.new ≡ replicate (length buf.old) 0) }
-        ensures read { WasRead D.meaning D.moves (publisher_of self.now) device path.now offset (length buf.old) result.1 buf.new result.0 }
-    {
-        let mut mount = self.mount(device);
-        let answer = read_file(&mut mount, path, offset, buf);
-        (mount.into_device(), answer)
-    }
 }

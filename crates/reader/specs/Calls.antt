@@ -68,3 +68,7 @@ outcome given buffer state (Err refusal) = Err refusal
 abbrev pub refused : {F X : Type 0} → Result X (Handle × F) → Result X F
 refused (Ok x) = Ok x
 refused (Err both) = Err both.1
+
+-- what `whole` comes to
+abbrev pub came_whole : {F : Type 0} → List ℕ → State → Result (Unit {0}) (Handle × Refusal F) → Result calls.Accepted (Refusal F)
+came_whole buffer state result = outcome gave_all buffer state (refused result)

@@ -28,7 +28,7 @@ impl State {
     ghost use Rattle.std.specs.Prelude.{◌<◌, ◌≤◌, ◌+◌, ◌-◌, cond, [], OnErr, OnOk, IfErr, IfOk, is_ok, nat_lt, length, replicate};
     ghost use Rattle.volume.specs.Fetches.{settled};
     ghost use Rattle.calls.specs.Calls.{call_rules, count, fresh, listed, started};
-    ghost use Rattle.reader.specs.Calls.{CallRan, begins, closes, gave_all, gave_closed, lists, opened_file, opens, outcome, reads, reads_whole, refused, state_of};
+    ghost use Rattle.reader.specs.Calls.{CallRan, begins, came_whole, closes, gave_closed, lists, opened_file, opens, outcome, reads, reads_whole, refused, state_of};
 
     /// That of a mount that was just made: it has not begun, and no handle is held.
     pub fn new() -> State
@@ -130,7 +130,7 @@ impl State {
         handle: Handle,
         buf: &mut [u8],
     ) -> Result<(), (Handle, Refusal<D::Refusal>)>
-        ensures run { CallRan D.meaning D.moves geometry.now store.old self.old (reads_whole handle buf.old) (outcome gave_all buf.new self.new (refused result)) store.new }
+        ensures run { CallRan D.meaning D.moves geometry.now store.old self.old (reads_whole handle buf.old) (came_whole buf.new self.new result) store.new }
         ensures zeros { OnErr result (buf.new ≡ replicate (length buf.old) 0) }
         ensures kept { OnErr result (self.new ≡ self.old) }
         ensures back { IfErr result (λ e. e.0 ≡ handle) }

@@ -16,9 +16,7 @@ const OTHERS: [&str; 4] = [
 // The food whose lines are printed.
 const FOOD: &str = "oats";
 
-type Files<'a, S> = &'a mut OpenFiles<S>;
-
-fn open<S: Store>(files: Files<'_, S>, path: &str) -> anyhow::Result<Opened>
+fn open<S: Store>(files: &mut OpenFiles<S>, path: &str) -> anyhow::Result<Opened>
 where
     RefusalBelow<S>: fmt::Display,
 {
@@ -30,7 +28,7 @@ where
 // Prints a file's lines on the food, or why it is refused, with not one byte of it.
 fn print<S: Store>(
     rt: &HostRuntime,
-    files: Files<'_, S>,
+    files: &mut OpenFiles<S>,
     path: &str,
     file: &Opened,
 ) -> anyhow::Result<()>
@@ -61,7 +59,7 @@ where
     Ok(())
 }
 
-pub fn read_all<S: Store>(rt: &HostRuntime, files: Files<'_, S>) -> anyhow::Result<()>
+pub fn read_all<S: Store>(rt: &HostRuntime, files: &mut OpenFiles<S>) -> anyhow::Result<()>
 where
     RefusalBelow<S>: fmt::Display,
 {

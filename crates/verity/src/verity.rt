@@ -19,6 +19,8 @@ use digest::Digest;
 use geometry::{Geometry, Label};
 use layers::{StorageFault, Store};
 
+/// A device that gives a data block only after each block on its path, from the top of the tree down, has the salted digest that
+/// the root or the block above it tells.
 #[derive(Drop)]
 pub struct Verity<H: Digest, D: Device> {
     // None where the label was refused.
@@ -27,7 +29,7 @@ pub struct Verity<H: Digest, D: Device> {
 }
 
 impl<H: Digest + Drop, D: Device> Verity<H, D> {
-    // Copies the label if it is good. Refused, it makes every answer that refusal.
+    /// Copies the label if it is good. Refused, it makes every answer that refusal, 2.
     pub fn new(digest: H, label: &Label<'_>, below: D) -> Verity<H, D>
         ensures label { label_of result ≡ told_by H.NUMBER H.LEN H.meaning label.now }
         ensures below { below_of result ≡ below }
@@ -38,7 +40,7 @@ impl<H: Digest + Drop, D: Device> Verity<H, D> {
         }
     }
 
-    // Gives the device below back.
+    /// Gives the device below back.
     pub fn into_below(self) -> D
         ensures { result ≡ below_of self }
     {
