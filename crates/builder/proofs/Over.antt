@@ -79,10 +79,11 @@ module _ (s : Shape) (wide : 2 ≤ fanout s) where
       let next : levels s - i ≡ suc (levels s - suc i) = omega arith in
       let whole : tree_len (over s i) ≡ at + width s (i + 1) * e =
       ap (λ k. k * e) (tree_over i (omega arith) ∙ ap (blocks_from s i) next) ∙ omega (arith, here, ap (λ k. width s k * e) (add-one i)) in
+      let rest : at + width s (i + 1) * e - at ≡ width s (i + 1) * e = omega arith in
       record {
         inside = omega (arith, whole, ap length zeros, length-replicate {A = ℕ} (tree_len (over s i)) 0);
         front = ap (take at) (zeros ∙ ap (λ k. replicate k 0) whole) ∙ take-replicate at (at + width s (i + 1) * e) 0 (omega arith) ∙ ap (λ k. replicate k 0) above;
-        back = ap (drop at) (zeros ∙ ap (λ k. replicate k 0) whole) ∙ drop-replicate at (at + width s (i + 1) * e) 0 ∙ ap (λ k. replicate k 0) (let d : at + width s (i + 1) * e - at ≡ width s (i + 1) * e = omega arith in d);
+        back = ap (drop at) (zeros ∙ ap (λ k. replicate k 0) whole) ∙ drop-replicate at (at + width s (i + 1) * e) 0 ∙ ap (λ k. replicate k 0) rest;
       }
 
   pub some_over : (i : ℕ) → 1 ≤ s.blocks → 1 ≤ width s i
@@ -105,10 +106,11 @@ unfolding blocks_from
 no_level s none = let empty : 0 * s.hash_block ≡ 0 = omega arith in ap (λ n. replicate (blocks_from s 0 n * s.hash_block) 0) none ∙ ap (λ k. replicate k 0) empty
 
 -- over the data lies the whole tree
+pub count_data : (g : Geometry) → width (shape_of g) 0 ≡ (shape_of g).blocks
+count_data g = width_zero (shape_of g) (omega (arith, bounds_of g))
+
 pub over_data : (g : Geometry) → over (shape_of g) 0 ≡ shape_of g
-over_data g =
-    let s = shape_of g in
-    ap (λ w. shape s.data_block s.hash_block w s.slot) (width_zero s (omega (arith, bounds_of g)))
+over_data g = ap (λ w. shape g.data_block g.hash_block w g.slot) (count_data g)
 
 pub row_over : (g : Geometry) (row : List ℕ) → IsRow (shape_of g) row → IsRow (over (shape_of g) 0) row
 row_over g row whole = subst (λ t. IsRow t row) (sym (over_data g)) whole

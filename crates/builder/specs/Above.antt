@@ -19,7 +19,8 @@ above_limits_met size base = in_limits (shape_above size base) base.salt.now
 
 -- the digests are whole, and the buffers are as long as the tree and the root
 abbrev pub above_fits : ℕ → Base → List ℕ → List ℕ → Bool
-above_fits size base for_tree for_root = length base.digests.now == (shape_above size base).blocks * size && has_room size (shape_above size base) for_tree for_root
+above_fits size base for_tree for_root =
+    length base.digests.now == (shape_above size base).blocks * size && has_room size (shape_above size base) for_tree for_root
 
 abbrev pub above_answer : ℕ → Base → List ℕ → List ℕ → Result (Unit {0}) BuildFault
 above_answer size base for_tree for_root = verdict (above_limits_met size base) (above_fits size base for_tree for_root)
@@ -39,12 +40,14 @@ root_above size h s digests = cond (levels s == 0) digests (root h (over s 1) (l
 -- what the tree's buffer holds after `build_above`: the tree over the digests, or zeros
 abbrev pub tree_above_after : ℕ → (List ℕ → List ℕ) → Base → List ℕ → List ℕ → List ℕ
 tree_above_after size meaning base for_tree for_root =
-    written (above_limits_met size base) (above_fits size base for_tree for_root) (tree_above size (salted meaning base.salt.now) (shape_above size base) base.digests.now) for_tree
+    written (above_limits_met size base) (above_fits size base for_tree for_root)
+    (tree_above size (salted meaning base.salt.now) (shape_above size base) base.digests.now) for_tree
 
 -- and the root's: its root, or zeros
 abbrev pub root_above_after : ℕ → (List ℕ → List ℕ) → Base → List ℕ → List ℕ → List ℕ
 root_above_after size meaning base for_tree for_root =
-    written (above_limits_met size base) (above_fits size base for_tree for_root) (root_above size (salted meaning base.salt.now) (shape_above size base) base.digests.now) for_root
+    written (above_limits_met size base) (above_fits size base for_tree for_root)
+    (root_above size (salted meaning base.salt.now) (shape_above size base) base.digests.now) for_root
 
 -- over the digests of an image's blocks they are the tree and the root of the image
 abbrev pub AboveStands : Type 0

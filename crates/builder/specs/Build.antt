@@ -24,9 +24,11 @@ answer size source for_tree for_root = verdict (limits_met size source) (lengths
 -- what the tree's buffer holds then: the tree, or zeros
 abbrev pub tree_after : ℕ → (List ℕ → List ℕ) → Source → List ℕ → List ℕ → List ℕ
 tree_after size meaning source for_tree for_root =
-    written (limits_met size source) (lengths_fit size source for_tree for_root) (tree (salted meaning source.salt.now) (shape_for size source) source.image.now) for_tree
+    written (limits_met size source) (lengths_fit size source for_tree for_root)
+    (tree (salted meaning source.salt.now) (shape_for size source) source.image.now) for_tree
 
 -- and the root's: the root, or zeros
 abbrev pub root_after : ℕ → (List ℕ → List ℕ) → Source → List ℕ → List ℕ → List ℕ
 root_after size meaning source for_tree for_root =
-    written (limits_met size source) (lengths_fit size source for_tree for_root) (root (salted meaning source.salt.now) (shape_for size source) source.image.now) for_root
+    written (limits_met size source) (lengths_fit size source for_tree for_root)
+    (root (salted meaning source.salt.now) (shape_for size source) source.image.now) for_root

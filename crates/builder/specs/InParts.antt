@@ -13,7 +13,9 @@ digests_of h d image = flat_map (λ k. h (block_of d image k)) (range_with_len 0
 
 -- the digests of two images of whole blocks, joined, are those of the images, joined
 abbrev pub PartsStand : Type 0
-PartsStand = (h : List ℕ → List ℕ) (d : ℕ) (a b : List ℕ) → 0 < d → length a % d ≡ 0 → digests_of h d (a ++ b) ≡ digests_of h d a ++ digests_of h d b
+PartsStand =
+    (h : List ℕ → List ℕ) (d : ℕ) (a b : List ℕ) → 0 < d → length a % d ≡ 0
+    → digests_of h d (a ++ b) ≡ digests_of h d a ++ digests_of h d b
 
 -- the image is whole blocks, and the buffer is as long as their digests
 abbrev pub digests_fit : ℕ → Source → List ℕ → Bool
@@ -25,4 +27,5 @@ hashed_answer size source for_digests = verdict (limits_met size source) (digest
 -- what the buffer holds then: the digests, or zeros
 abbrev pub hashed_after : ℕ → (List ℕ → List ℕ) → Source → List ℕ → List ℕ
 hashed_after size meaning source for_digests =
-    written (limits_met size source) (digests_fit size source for_digests) (digests_of (salted meaning source.salt.now) source.data_block source.image.now) for_digests
+    written (limits_met size source) (digests_fit size source for_digests)
+    (digests_of (salted meaning source.salt.now) source.data_block source.image.now) for_digests

@@ -6,15 +6,6 @@ ghost use Rattle.tree.specs.Tree.{in_slot};
 use digest::Digest;
 use geometry::Geometry;
 
-// Writes digests over the front of a level that is zeros: in one go, where a slot is as long as a digest.
-fn put_front(digests: &[u8], level: &mut [u8])
-    requires zeros { level.old ≡ replicate (length level.old) 0 }
-    requires room { length digests.now ≤ length level.old }
-    ensures { level.new ≡ in_slot (length level.old) digests.now }
-{
-    level[..digests.len()].copy_from_slice(digests);
-}
-
 #[derive(Drop)]
 pub(crate) struct Job<'a, D: Digest> {
     pub(crate) digest: &'a D,
@@ -122,4 +113,13 @@ impl<D: Digest> Job<'_, D> {
             self.climb(1, level, above, root);
         }
     }
+}
+
+// Writes digests over the front of a level that is zeros: in one go, where a slot is as long as a digest.
+fn put_front(digests: &[u8], level: &mut [u8])
+    requires zeros { level.old ≡ replicate (length level.old) 0 }
+    requires room { length digests.now ≤ length level.old }
+    ensures { level.new ≡ in_slot (length level.old) digests.now }
+{
+    level[..digests.len()].copy_from_slice(digests);
 }

@@ -1,10 +1,10 @@
-use Rattle.std.proofs.Common.{rules, ◌≡◌, ◌*◌, length, ap, ap₂, ◌∙◌, arith}
+use Rattle.std.proofs.Common.{rules, ◌≡◌, ◌*◌, length, ap₂, ◌∙◌, arith}
 use Rattle.geometry.specs.Of.{shape_of}
 use Rattle.tree.specs.Tree.{in_slot}
 use Rattle.builder.specs.InParts.{digests_of}
 use Rattle.builder.specs.Parts.{IsRow, hash_by, row_slots}
 use Rattle.builder.proofs.Digests.{digests_are}
-use Rattle.builder.proofs.Over.{over_data, row_over, sound_of}
+use Rattle.builder.proofs.Over.{count_data, over_data, row_over, sound_of}
 use Rattle.builder.proofs.hash.hash_blocks.Goals as goal
 
 pub fill_slots-requires-clause-row : goal.fill_slots-requires-clause-row
@@ -12,8 +12,7 @@ fill_slots-requires-clause-row g c = row_over c.in_ok-job.job.geometry _ (search
 
 pub fill_slots-requires-clause-room : goal.fill_slots-requires-clause-room
 fill_slots-requires-clause-room g c =
-    let count = ap (λ s. s.blocks) (over_data c.in_ok-job.job.geometry) in
-    omega (arith, ap₂ (λ n k. n * k) count c.output_len.ensures, c.if-digests-digests_len.false, c.digests_len.ensures)
+    omega (arith, ap₂ (λ n k. n * k) (count_data c.in_ok-job.job.geometry) c.output_len.ensures, c.if-digests-digests_len.false, c.digests_len.ensures)
 
 pub returns-clause-digests : goal.returns-clause-digests
 returns-clause-digests g c =
