@@ -5,7 +5,7 @@ ghost use Rattle.digest.specs.declared.message.TheConstants.{LIMIT};
 use crate::padded::{PADDED, put};
 use sha2_block::Word;
 
-// The longest joined string that is hashed.
+/// Bytes of the longest joined string that is hashed.
 pub const LIMIT: usize = 4352;
 
 #[derive(Clone, Copy)]

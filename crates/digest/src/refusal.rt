@@ -1,13 +1,14 @@
-// Why a digest was refused.
+// The refusal of a digest.
 ghost use Rattle.std.specs.Prelude.{◌≡◌, ◌++◌, Some, codes};
 ghost use Rattle.std.specs.Fmt.{decimal};
 ghost use Rattle.digest.specs.Answer.{number_of};
 
 use std::fmt;
 
+/// Why a digest was refused.
 #[derive(Clone, Copy, PartialEq, Eq, Debug)]
 pub enum Refusal {
-    // The buffer has not the digest's length, or the joined string is above the limit.
+    /// The buffer has not the digest's length, or the joined string is above the limit.
     Length = 3,
 }
 

@@ -7,11 +7,12 @@ ghost use Rattle.std.proofs.Common.{inl, inr, refl};
 use crate::answer::answer;
 use crate::refusal::Refusal;
 
-// A digest: one fixed function from a string to `LEN` bytes, asked by the two parts of the string.
+/// A digest: one fixed function from a string to `LEN` bytes, asked by the two parts of the string.
 pub trait Digest {
-    // The bytes of a digest, and the number by which a label names the function.
+    /// Bytes of a digest, 32 or 64.
     const LEN: usize;
 
+    /// The number by which a label names the function.
     const NUMBER: u32;
 
     ghost LEN: { ℕ };
@@ -20,19 +21,22 @@ pub trait Digest {
 
     ghost meaning: { List ℕ → List ℕ };
 
+    /// Bytes of a digest.
     final fn output_len(&self) -> usize
         ensures { result ≡ LEN }
     {
         Self::LEN
     }
 
+    /// The number by which a label names the function.
     final fn label_number(&self) -> u32
         ensures { result ≡ NUMBER }
     {
         Self::NUMBER
     }
 
-    // Writes the digest of `first` joined to `second` into `out`. Refused, it leaves `out` all zeros.
+    /// Writes the digest of `first` joined to `second` into `out`. Refused (3) exactly if `out` has not `LEN` bytes or the
+    /// joined string is longer than `LIMIT`; then `out` is all zeros.
     fn digest(&self, first: &[u8], second: &[u8], out: &mut [u8]) -> Result<(), Refusal>
         ensures answer { result ≡ answer_of LEN first.now second.now out.old }
         ensures bytes { out.new ≡ written LEN meaning first.now second.now out.old };
@@ -42,6 +46,7 @@ pub trait Digest {
     ghost lengths: { (m : List ℕ) → length (meaning m) ≡ LEN };
 }
 
+/// SHA-256 of FIPS 180-4.
 #[derive(Clone, Copy)]
 pub struct Sha256;
 
@@ -66,6 +71,7 @@ impl Digest for Sha256 {
     }
 }
 
+/// SHA-512 of FIPS 180-4.
 #[derive(Clone, Copy)]
 pub struct Sha512;
 
