@@ -1,5 +1,5 @@
 -- A number as std parses it, and as `number_within` reads it.
-use Rattle.std.proofs.Common.{◌≡◌, ℕ, ◌^◌, ◌<◌, true, List, length, Result, Ok, Err, Some, None, sym, ap, ◌∙◌, arith, rules}
+use Rattle.std.proofs.Common.{◌≡◌, ℕ, ◌^◌, ◌<◌, true, false, List, length, Result, Ok, Err, Some, None, sym, ap, ◌∙◌, arith, rules}
 use Rattle.std.specs.Char.{is_ascii_digit}
 use Rattle.std.specs.List.{list_all}
 use Rattle.std.specs.Result.{OkIff, result_ok}
@@ -26,10 +26,8 @@ told bits text (Err e) digits h =
 pub parsed : {E : Type 0} (bits : ℕ) (text : List ℕ) (r : Result ℕ E) → list_all is_ascii_digit text ≡ true → ParsesUnsigned bits 10 text r → result_ok r ≡ number_within bits text
 parsed bits text r digits h = told bits text r digits (parse_digits own bits text r h digits)
 
-pub undecoded : (bits : ℕ) (text : List ℕ) → ¬ (IsUtf8 text) → None ≡ number_within bits text
-undecoded bits text h =
-    sym (cond-false _ (Some (digits_value 10 text)) None (false_from_ne_true _ (λ all.
-    h (IsUtf8-from_ascii text (IsAscii-from_digits text (own.to text (and_parts _ _ (and_parts _ _ all).0).0))))))
+pub undecoded : (text : List ℕ) → ¬ (IsUtf8 text) → list_all is_ascii_digit text ≡ false
+undecoded text h = false_from_ne_true _ (λ all. h (IsUtf8-from_ascii text (IsAscii-from_digits text (own.to text all))))
 
 -- a number that was printed reads as itself
 pub number_of-decimal : (n : ℕ) → n < 2 ^ 32 → number_of (decimal n) ≡ Some n
