@@ -1,7 +1,7 @@
 // Entries by their numbers.
 
 /// An entry of the directory that a path names, by its number: they count from 0, without `.` and `..`.
-#[derive(Clone, Copy)]
+#[derive(Clone, Copy, Debug)]
 pub struct Nth<'a> {
     /// The path of the directory.
     pub path: &'a [u8],

@@ -4,7 +4,7 @@ ghost use Rattle.std.specs.Prelude.{◌≡◌, ◌-◌, true, false, min, nat_lt
 use crate::handle::Handle;
 
 /// A place in an open file.
-#[derive(Clone, Copy)]
+#[derive(Clone, Copy, Debug)]
 pub struct Position<'a> {
     /// The file.
     pub handle: &'a Handle,

@@ -12,6 +12,7 @@ mod tests;
 
 pub use bytes::Bytes;
 pub use decimal::{number, wide_number};
+// for `with_digest`
 pub use digest::{Sha256, Sha512};
 pub use digits::Digits;
 pub use function::{Function, UnknownFunction};
