@@ -2,14 +2,12 @@
 #![tactic(auto)]
 
 mod fault;
-mod give;
 mod key;
 mod label;
 mod laws;
 mod line;
 mod lines;
 mod print;
-mod read;
 #[cfg(test)]
 mod tests;
 mod values;

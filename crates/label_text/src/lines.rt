@@ -1,11 +1,14 @@
 // The lines of a text, and what stands behind a key.
 ghost use Rattle.std.specs.Prelude.{◌≡◌, ◌==◌, ◌∷◌, option_copied, position};
 ghost use Rattle.std.specs.Option.{option_map};
+ghost use Rattle.text.specs.Number.{number_of};
+ghost use Rattle.label_text.specs.Label.{read_by};
 ghost use Rattle.label_text.specs.Lines.{behind, lines, lines_left, past_blanks, value_in, value_of};
 ghost use Rattle.label_text.specs.Seen.{seen};
 
 use crate::fault::Fault;
 use crate::key::Key;
+use text::number;
 
 fn line_end(text: &[u8]) -> Option<usize>
     ensures { result ≡ position (λ c. c == 10) text.now }
@@ -62,4 +65,11 @@ pub(crate) fn value(key: Key, text: &[u8]) -> Result<&[u8], Fault>
         rest = more;
     }
     found.ok_or(Fault::Missing(key))
+}
+
+// The number behind a key.
+pub(crate) fn number_at(key: Key, text: &[u8]) -> Result<u32, Fault>
+    ensures { result ≡ read_by number_of key text.now }
+{
+    number(value(key, text)?).ok_or(Fault::Malformed(key))
 }
