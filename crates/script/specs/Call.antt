@@ -22,7 +22,7 @@ path_told (Hex digits) = bytes_told digits
 abbrev pub asked : Call → Asked
 asked call.Begin = to_begin
 asked (call.Open path) = to_open (path_told path)
-asked (call.Read handle from size) = to_read handle from size
+asked (call.Read handle offset size) = to_read handle offset size
 asked (call.Whole handle size) = to_whole handle size
 asked (call.List index size path) = to_list index size (path_told path)
 asked (call.Close handle) = to_close handle

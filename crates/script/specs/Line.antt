@@ -40,9 +40,9 @@ open_of text = option_map to_open (path_of text)
 abbrev pub read_of : List ℕ → Option Asked
 read_of text = do
   handle ← line_number text
-  from ← line_number handle.1
-  size ← wide_number_of from.1
-  Some (to_read handle.0 from.0 size)
+  offset ← line_number handle.1
+  size ← wide_number_of offset.1
+  Some (to_read handle.0 offset.0 size)
 
 abbrev pub whole_of : List ℕ → Option Asked
 whole_of text = do

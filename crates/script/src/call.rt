@@ -25,7 +25,7 @@ pub enum Call<'a> {
     },
     Read {
         handle: usize,
-        from: usize,
+        offset: usize,
         length: usize,
     },
     Whole {
@@ -96,10 +96,10 @@ fn parse_read(text: &str) -> Option<Call<'_>>
     ensures { option_map asked result ≡ read_of text.now }
 {
     let (handle, rest) = number(text)?;
-    let (from, rest) = number(rest)?;
+    let (offset, rest) = number(rest)?;
     Some(Call::Read {
         handle,
-        from,
+        offset,
         length: wide_number(rest.as_bytes())?,
     })
 }

@@ -28,7 +28,7 @@ fn reads_lines(rt: HostRuntime) {
             "read 0 18446744073709551615 7",
             Some(Call::Read {
                 handle: 0,
-                from: usize::MAX,
+                offset: usize::MAX,
                 length: 7,
             }),
         ),

@@ -91,11 +91,11 @@ where
         }
     }
 
-    fn read(&mut self, handle: usize, from: usize, length: usize) -> io::Result<()> {
+    fn read(&mut self, handle: usize, offset: usize, length: usize) -> io::Result<()> {
         let Some(mut buf) = buffer(self.rt.alloc(), length) else {
             return self.say(&Reply::NoMemory { call: Name::Read });
         };
-        let answer = self.files.read(handle, from, buf.as_mut_slice());
+        let answer = self.files.read(handle, offset, buf.as_mut_slice());
         let buf = buf.as_slice();
         match answer {
             Ok(count) => self.say(&Reply::Read { count, buf }),
@@ -150,10 +150,10 @@ where
             Some(
                 Call::Read {
                     handle,
-                    from,
+                    offset,
                     length,
                 },
-            ) => self.read(handle, from, length),
+            ) => self.read(handle, offset, length),
             Some(Call::Whole { handle, length }) => self.whole(handle, length),
             Some(
                 Call::List {
