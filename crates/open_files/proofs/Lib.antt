@@ -1,3 +1,2 @@
 pub mod Closing
 pub mod Names
-pub mod Unread

@@ -35,10 +35,14 @@ OpenedThen m path Then = (file : Extent) × (k : _) × Called m (open_file path)
 abbrev pub WasRead : {S B R : Type 0} {s d e : _} → MountOver S B R s d e → List ℕ → List ℕ → MountOver S B R s d e → Type 0
 WasRead m path bytes n = OpenedThen m path (λ k file. GaveWhole k file bytes n)
 
--- it was not: its open was refused for this, and nothing else was called; or it was opened, not read, and closed
+-- its open was refused for this, and nothing else was called
+abbrev pub NotOpened : {S B R : Type 0} {s d e : _} → MountOver S B R s d e → List ℕ → ContentsFault R → MountOver S B R s d e → Type 0
+NotOpened m path (Refused why) n = Refuses m (open_file path) why n
+NotOpened m path Memory n = ⊥
+
+-- it was not read: it was not opened; or it was opened, not read, and closed
 abbrev pub NotRead : {S B R : Type 0} {s d e : _} → MountOver S B R s d e → List ℕ → ContentsFault R → MountOver S B R s d e → Type 0
-NotRead m path (Refused why) n = Refuses m (open_file path) why n ⊎ OpenedThen m path (λ k file. GaveNone k file (Refused why) n)
-NotRead m path Memory n = OpenedThen m path (λ k file. GaveNone k file Memory n)
+NotRead m path why n = NotOpened m path why n ⊎ OpenedThen m path (λ k file. GaveNone k file why n)
 
 -- there are not so many entries: 41, at the end of a path of this length
 abbrev pub missing : {F : Type 0} → ℕ → Refusal F

@@ -1,6 +1,6 @@
+use Rattle.std.proofs.Common.{inr}
 use Rattle.std.proofs.lemmas.Result.{IfOk-weaker, IfErr-weaker}
 use Rattle.reader.specs.Calls.{extent_of}
-use Rattle.open_files.proofs.Unread.{opened_unread}
 use Rattle.open_files.proofs.reading.contents.Goals as goal
 
 pub returns-in-Ok-clause-read : goal.returns-in-Ok-clause-read
@@ -8,4 +8,4 @@ returns-in-Ok-clause-read g c = IfOk-weaker c.read_whole.result _ _ (λ bytes ga
 
 pub returns-in-Ok-clause-none : goal.returns-in-Ok-clause-none
 returns-in-Ok-clause-none g c =
-    IfErr-weaker c.read_whole.result _ _ (λ why gave. opened_unread c.args.mount.now c.open.new.self c.read_whole.new.mount c.args.path.now (extent_of c.in-Ok.handle) c.in-Ok.ensures.step why gave) c.read_whole.ensures.none
+    IfErr-weaker c.read_whole.result _ _ (λ why gave. inr (extent_of c.in-Ok.handle, c.open.new.self, c.in-Ok.ensures.step, gave)) c.read_whole.ensures.none
