@@ -1,20 +1,18 @@
 // The command `check`: every data block, and every file of the card.
 use crate::fault::Fault;
 use crate::open_card::Card;
-use calls::{CallRefusal, Refusal};
+use calls::Refusal;
 use device::{Area, Device};
 use digest::Digest;
-use layers::Place;
-use media::{Memory, Outside};
-use mount::Mount;
+use layers::{Place, RefusalBelow, Store};
+use mount::{Mount, MountOver};
 use open_files::{ContentsFault, Listed, contents, entry_at};
 use std::alloc::{AllocError, Global};
 use std::collections::BTreeSet;
+use std::fmt;
 use text::with_digest;
 use verity::Verity;
 use volume::{Kind, PathFault, PathRule};
-
-type Why = CallRefusal<Outside>;
 
 #[derive(Clone, Copy)]
 struct Count {
@@ -91,8 +89,8 @@ fn check_blocks<H: Digest + Drop>(
 
 // The directories that are still to be listed, and the mount that they are of.
 #[derive(Drop)]
-struct Walk<'a, H: Digest + Drop> {
-    mount: Mount<H, Memory<'a>>,
+struct Walk<S: Store> {
+    mount: MountOver<S>,
     left: Vec<Vec<u8>>,
 }
 
@@ -106,14 +104,17 @@ fn join(heap: Global, directory: &[u8], name: &[u8]) -> Result<Vec<u8>, AllocErr
     Ok(path)
 }
 
-impl<H: Digest + Drop> Walk<'_, H> {
+impl<S: Store> Walk<S>
+where
+    RefusalBelow<S>: fmt::Display,
+{
     // Names what is refused at a path, unless its block was named before.
     fn refuse(
         &mut self,
         rt: &HostRuntime,
         report: &mut Report,
         path: &[u8],
-        why: Why,
+        why: Refusal<S::Refusal>,
     ) -> Result<(), Fault> {
         if report.is_new(why.places().storage)? {
             let name = String::from_utf8_lossy(rt.alloc(), path)?;
