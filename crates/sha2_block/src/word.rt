@@ -1,13 +1,11 @@
-// What the block step asks of a word, and the standard's functions on words, which are one text for every word.
-ghost use Rattle.std.specs.Prelude.{◌≡◌, ℕ, ◌/◌, ◌%◌, ◌≤◌, ◌⊎◌, ◌++◌, map, length, take, drop, bit_and, bit_xor, if◌then◌else◌, nat_le};
+// What the block step asks of a word.
+ghost use Rattle.std.specs.Prelude.{◌≡◌, ℕ, ◌/◌, ◌%◌, ◌≤◌, ◌⊎◌, ◌++◌, map, length, take, drop, if◌then◌else◌, nat_le};
 ghost use Rattle.constants.specs.Rule.{round_constants};
 ghost use Rattle.sha2_block.specs.Bytes.{big_endian, number};
 ghost use Rattle.sha2_block.specs.Variant.{Variant, upper as upper_bits};
 ghost use Rattle.sha2_block.specs.Words.{plus as sum, big_sigma0, big_sigma1, small_sigma0, small_sigma1, choice as chosen, majority as most};
 
-use std::ops::{BitAnd, BitXor};
-
-pub trait Word: Copy + BitAnd<Self, Output = Self> + BitXor<Self, Output = Self> {
+pub trait Word: Copy {
     ghost value: { Self → ℕ };
 
     ghost variant: { Variant };
@@ -39,11 +37,8 @@ pub trait Word: Copy + BitAnd<Self, Output = Self> + BitXor<Self, Output = Self>
     fn choice(self, y: Self, z: Self) -> Self
         ensures { value result ≡ chosen variant (value self) (value y) (value z) };
 
-    final fn majority(self, y: Self, z: Self) -> Self
-        ensures { value result ≡ most (value self) (value y) (value z) }
-    {
-        y ^ ((self ^ y) & (y ^ z))
-    }
+    fn majority(self, y: Self, z: Self) -> Self
+        ensures { value result ≡ most (value self) (value y) (value z) };
 
     // The upper bits of a constant of 64 bits.
     fn upper(k: u64) -> Self
@@ -62,8 +57,4 @@ pub trait Word: Copy + BitAnd<Self, Output = Self> + BitXor<Self, Output = Self>
     ghost turns: { (16 ≤ variant.rounds) × (variant.rounds ≤ 80) × (variant.rounds % 16 ≡ 0) };
 
     ghost constants: { variant.constants ≡ map (upper_bits variant.bits) round_constants };
-
-    ghost ands: { (x y : Self) → Self.can_bitand x y × ((r : Self) → Self.bitand_gives x y r → value r ≡ bit_and (value x) (value y)) };
-
-    ghost xors: { (x y : Self) → Self.can_bitxor x y × ((r : Self) → Self.bitxor_gives x y r → value r ≡ bit_xor (value x) (value y)) };
 }

@@ -2,7 +2,16 @@
 ghost use Rattle.sha2_block.specs.Variant.{words64};
 ghost use Rattle.std.proofs.Common.{inr, lit≤, refl};
 
+use crate::bits::Bits;
 use crate::word::Word;
+
+impl Bits for u64 {
+    ghost value = { λ x. x };
+
+    ghost ands = { λ x y. (tt, λ r e. e) };
+
+    ghost xors = { λ x y. (tt, λ r e. e) };
+}
 
 impl Word for u64 {
     ghost value = { λ x. x };
@@ -14,10 +23,6 @@ impl Word for u64 {
     ghost turns = { (lit≤ tt, lit≤ tt, refl) };
 
     ghost constants = { refl };
-
-    ghost ands = { λ x y. (tt, λ r e. e) };
-
-    ghost xors = { λ x y. (tt, λ r e. e) };
 
     // What the trait asks of each word, a line each: these are the two types' own sizes and operations of std.
     fn size() -> usize {
@@ -55,6 +60,10 @@ impl Word for u64 {
     // this. In the standard's form, as one text, it was slower.
     fn choice(self, y: u64, z: u64) -> u64 {
         z ^ (self & (y ^ z))
+    }
+
+    fn majority(self, y: u64, z: u64) -> u64 {
+        self.most(y, z)
     }
 
     fn upper(k: u64) -> u64 {
