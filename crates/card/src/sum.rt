@@ -1,11 +1,14 @@
 // The command `sum`: a line for each file, with its digest and its name.
-ghost use Rattle.std.specs.Prelude.{◌≤◌, IfOk, length};
+ghost use Rattle.std.specs.Prelude.{◌≡◌, ◌≤◌, IfOk, Some, length};
+ghost use Rattle.text.specs.Bytes.{bytes_of};
+ghost use Rattle.text.specs.Hex.{hex_of};
+ghost use Rattle.text.specs.Sum.{sum_of};
 
 use crate::fault::Fault;
 use digest::{LIMIT, Refusal};
 use std::fs::File;
-use std::io;
 use std::io::Read;
+use std::{fmt, io};
 use text::{Bytes, Digits, Function};
 use thiserror::Error;
 
@@ -41,9 +44,27 @@ fn read_whole(rt: &HostRuntime, name: &str) -> Result<Vec<u8>, NoSum>
     }
 }
 
-fn sum(rt: &HostRuntime, function: Function, name: &str) -> Result<Bytes<64>, NoSum> {
+// The digest of a file's bytes, which prints as its digits.
+#[derive(Clone, Copy)]
+struct FileSum(Bytes<64>);
+
+impl fmt::Display for FileSum {
+    ghost output = { λ sum. Some (hex_of (bytes_of sum.0)) };
+
+    fn fmt<W: fmt::Write>(&self, f: &mut fmt::Formatter<W>) -> fmt::Result {
+        write!(f, "{}", Digits(self.0.as_slice()))
+    }
+}
+
+fn digest_of(function: Function, bytes: &[u8]) -> Result<FileSum, Refusal>
+    ensures { IfOk result (λ sum. bytes_of sum.0 ≡ sum_of function bytes.now) }
+{
+    Ok(FileSum(function.sum(b"", bytes)?))
+}
+
+fn sum(rt: &HostRuntime, function: Function, name: &str) -> Result<FileSum, NoSum> {
     let bytes = read_whole(rt, name)?;
-    function.sum(b"", bytes.as_slice()).map_err(NoSum::Refused)
+    digest_of(function, bytes.as_slice()).map_err(NoSum::Refused)
 }
 
 // Prints the sum of each file that has one, and for each other file a line on standard error.
@@ -51,7 +72,7 @@ pub fn print_sums(rt: &HostRuntime, function: Function, files: &[String]) -> Res
     let mut outcome = Ok(());
     for name in files {
         match sum(rt, function, name.as_str()) {
-            Ok(sum) => println!(rt; "{}  {name}", Digits(sum.as_slice()))?,
+            Ok(sum) => println!(rt; "{sum}  {name}")?,
             Err(why) => {
                 eprintln!(rt; "card: {name:?}: {why}")?;
                 outcome = Err(Fault::Files);
