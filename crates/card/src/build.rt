@@ -61,7 +61,7 @@ fn base_of<'a>(options: &'a BuildOptions, digests: &'a [u8]) -> Base<'a> {
     }
 }
 
-// Appends the digests of a part's blocks, unless they are then too many.
+// Appends the digests of a part's blocks, unless there are then none or too many, or the part is not whole blocks.
 fn hash_part<D: Digest>(
     digest: &D,
     options: &BuildOptions,
@@ -71,7 +71,6 @@ fn hash_part<D: Digest>(
     ensures whole { OnOk result (length part.now % options.now.data_block ≡ 0) }
     ensures appended { OnOk result (digests.new.items ≡ digests.old.items ++ digests_of (salted D.meaning options.now.salt.items) options.now.data_block part.now) }
 {
-    check_whole(part.len(), options.data_block)?;
     let source = Source {
         image: part,
         data_block: options.data_block,
@@ -79,12 +78,15 @@ fn hash_part<D: Digest>(
         salt: options.salt.as_slice(),
     };
     let size = digest.output_len();
-    let geometry = source.geometry(size).ok_or(NoTree::Blocks)?;
     let start = digests.len();
-    digests.resize(start + geometry.blocks() * size, 0)?;
+    // none, where the part is shorter than a block
+    let blocks = source.geometry(size).map_or(0, |g| g.blocks());
+    digests.resize(start + blocks * size, 0)?;
+    // the number of blocks comes before what the last one lacks, as `build` has it
     base_of(options, digests.as_slice())
         .geometry(size)
         .ok_or(NoTree::Blocks)?;
+    check_whole(part.len(), options.data_block)?;
     hash_blocks(digest, &source, &mut digests[start..]).map_err(NoTree::Refused)?;
     Ok(())
 }
@@ -136,12 +138,11 @@ fn make<D: Digest>(
 // Writes the tree beside its place first, so that no half of it is left under its name.
 fn write_tree(rt: &HostRuntime, name: String, tree: &[u8]) -> Result<(), Fault> {
     let part = format!(in rt.alloc(); "{name}.part")?;
-    let moved = fs::write(rt, part.as_str(), tree).and_then(|()| fs::rename(
-        rt,
-        part.as_str(),
-        name.as_str(),
-    ));
-    moved.map_err(|error| {
+    if let Err(error) = fs::write(rt, part.as_str(), tree) {
+        let _ = fs::remove_file(rt, part.as_str());
+        return Err(Fault::File(part, error));
+    }
+    fs::rename(rt, part.as_str(), name.as_str()).map_err(|error| {
         let _ = fs::remove_file(rt, part.as_str());
         Fault::File(name, error)
     })
